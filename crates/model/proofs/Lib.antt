@@ -1,0 +1,4 @@
+pub mod Lists
+pub mod Tests
+pub mod Editions
+pub mod Bench

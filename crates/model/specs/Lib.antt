@@ -1,0 +1,20 @@
+-- Document 01 as definitions that compute. Read in this order:
+pub mod Lists
+pub mod Edition
+pub mod Types
+pub mod Map
+pub mod Sizes
+pub mod Layouts
+pub mod Image
+pub mod Decode
+pub mod Accept
+pub mod Context
+pub mod InLeaf
+pub mod Growing
+pub mod Mending
+pub mod Change
+pub mod Refusals
+pub mod Calls
+pub mod Batch
+pub mod Exported
+pub mod Computing

@@ -1,0 +1,4 @@
+pub mod Choice
+pub mod Runs
+pub mod Numbers
+pub mod Keys
