@@ -1,5 +1,5 @@
 -- The algebra of writing: runs of bytes written over others.
-use mathlib.Core.Path.{_≡_, refl, sym, _∙_}
+use mathlib.Core.Path.{_≡_, refl, sym, ap, _∙_}
 use mathlib.Core.List.{List, [], _∷_, _++_, append-nil}
 use mathlib.Core.Logic.{_⊎_, inl, inr, ⊎-elim}
 use Prim.Native.Nat.{ℕ, zero, suc, _+_, _≤_, _<_}
@@ -14,108 +14,109 @@ use Rattle.octets.specs.Runs.{over, zeros}
 
 pub length-over : (l : List ℕ) (at : ℕ) (s : List ℕ) → length (over l at s) ≡ length l
 unfolding over
-length-over l at [] = refl
-length-over l at (x ∷ s) = length-over (set l at x) (suc at) s ∙ length-set l at x
+length-over [] at s = refl
+length-over (x ∷ l) (suc at) s = ap suc (length-over l at s)
+length-over (x ∷ l) zero [] = refl
+length-over (x ∷ l) zero (y ∷ s) = ap suc (length-over l zero s)
 
 pub over-none : (l : List ℕ) (at : ℕ) → over l at [] ≡ l
 unfolding over
-over-none l at = refl
+over-none [] at = refl
+over-none (x ∷ l) (suc at) = ap (λ (m : List ℕ). x ∷ m) (over-none l at)
+over-none (x ∷ l) zero = refl
+
+-- a byte, then those behind it
+pub over-store : (l : List ℕ) (at x : ℕ) (s : List ℕ) → over l at (x ∷ s) ≡ over (set l at x) (suc at) s
+unfolding over
+over-store [] at x s = refl
+over-store (y ∷ l) (suc at) x s = ap (λ (m : List ℕ). y ∷ m) (over-store l at x s)
+over-store (y ∷ l) zero x s = refl
 
 -- A byte ----------------------------------------------------------------------------------------------------------------
 -- A byte beside the run is as it was, and a byte within it is the run's.
 
 pub getD-over-out : (l : List ℕ) (at : ℕ) (s : List ℕ) (i : ℕ) → (i < at) ⊎ (at + length s ≤ i) → getD (over l at s) i 0 ≡ getD l i 0
-unfolding over
-getD-over-out l at [] i h = refl
+getD-over-out l at [] i h = rw over-none
 getD-over-out l at (x ∷ s) i h =
     let n : i ≡ at → ⊥ = ⊎-elim (λ p. omega arith) (λ p. omega arith) h in
-    getD-over-out (set l at x) (suc at) s i (⊎-elim (λ p. inl (omega arith)) (λ p. inr (omega arith)) h)
-    ∙ getD-set-other l at i x 0 n
+    rw over-store (getD-over-out (set l at x) (suc at) s i (⊎-elim (λ p. inl (omega arith)) (λ p. inr (omega arith)) h)
+    ∙ getD-set-other l at i x 0 n)
 
 pub getD-over-in : (l : List ℕ) (at : ℕ) (s : List ℕ) (i : ℕ) → at + length s ≤ length l → i < length s
     → getD (over l at s) (at + i) 0 ≡ getD s i 0
-unfolding over
 getD-over-in l at [] i h p = absurd (omega arith)
 getD-over-in l at (x ∷ s) zero h p =
-    rw add-zero (getD-over-out (set l at x) (suc at) s at (inl (omega arith)) ∙ getD-set-same l at x 0 (omega arith))
+    rw (over-store, add-zero) (getD-over-out (set l at x) (suc at) s at (inl (omega arith)) ∙ getD-set-same l at x 0 (omega arith))
 getD-over-in l at (x ∷ s) (suc i) h p =
     let e : at + suc i ≡ suc at + i = omega arith in
     let k : length (set l at x) ≡ length l = length-set l at x in
-    rw e (getD-over-in (set l at x) (suc at) s i (omega arith) (omega arith))
+    rw (over-store, e) (getD-over-in (set l at x) (suc at) s i (omega arith) (omega arith))
 
 -- A store ---------------------------------------------------------------------------------------------------------------
 -- A store beside the run can come before it, and a store within it changes the run.
 
 pub set-over : (l : List ℕ) (at : ℕ) (s : List ℕ) (i x : ℕ) → (i < at) ⊎ (at + length s ≤ i) → set (over l at s) i x ≡ over (set l i x) at s
-unfolding over
-set-over l at [] i x h = refl
+set-over l at [] i x h = simp over-none
 set-over l at (y ∷ s) i x h =
     let n : at ≡ i → ⊥ = ⊎-elim (λ p. omega arith) (λ p. omega arith) h in
-    set-over (set l at y) (suc at) s i x (⊎-elim (λ p. inl (omega arith)) (λ p. inr (omega arith)) h)
-    ∙ rw (set-comm l at i y x n)
+    simp over-store (set-over (set l at y) (suc at) s i x (⊎-elim (λ p. inl (omega arith)) (λ p. inr (omega arith)) h)
+    ∙ rw (set-comm l at i y x n))
 
 pub set-inside : (l : List ℕ) (at : ℕ) (s : List ℕ) (j y : ℕ) → j < length s → set (over l at s) (at + j) y ≡ over l at (set s j y)
-unfolding over
 set-inside l at [] j y h = absurd (omega arith)
 set-inside l at (x ∷ s) zero y h =
-    rw add-zero (set-over (set l at x) (suc at) s at y (inl (omega arith)) ∙ rw (set-set l at x y))
+    simp (over-store, add-zero) (set-over (set l at x) (suc at) s at y (inl (omega arith)) ∙ rw (set-set l at x y))
 set-inside l at (x ∷ s) (suc j) y h =
     let e : at + suc j ≡ suc at + j = omega arith in
-    rw e (set-inside (set l at x) (suc at) s j y (omega arith))
+    simp (over-store, e) (set-inside (set l at x) (suc at) s j y (omega arith))
 
 -- Two runs --------------------------------------------------------------------------------------------------------------
 -- In the same place the last one stays, apart they go in either order, one within the other changes it, and one behind the other they are one.
 
 pub over-over : (l : List ℕ) (at : ℕ) (s t : List ℕ) → length s ≡ length t → over (over l at s) at t ≡ over l at t
-unfolding over
-over-over l at [] [] e = refl
+over-over l at [] [] e = simp over-none
 over-over l at [] (y ∷ t) e = absurd (omega arith)
 over-over l at (x ∷ s) [] e = absurd (omega arith)
 over-over l at (x ∷ s) (y ∷ t) e =
-    rw (set-over (set l at x) (suc at) s at y (inl (omega arith)), set-set l at x y)
-    (over-over (set l at y) (suc at) s t (omega arith))
+    simp over-store (rw (set-over (set l at x) (suc at) s at y (inl (omega arith)), set-set l at x y)
+    (over-over (set l at y) (suc at) s t (omega arith)))
 
 pub over-comm : (l : List ℕ) (at : ℕ) (s : List ℕ) (bt : ℕ) (t : List ℕ) → (at + length s ≤ bt) ⊎ (bt + length t ≤ at)
     → over (over l at s) bt t ≡ over (over l bt t) at s
-unfolding over
-over-comm l at s bt [] h = refl
+over-comm l at s bt [] h = simp over-none
 over-comm l at s bt (y ∷ t) h =
-    rw (set-over l at s bt y (⊎-elim (λ p. inr p) (λ p. inl (omega arith)) h))
-    (over-comm (set l bt y) at s (suc bt) t (⊎-elim (λ p. inl (omega arith)) (λ p. inr (omega arith)) h))
+    simp over-store (rw (set-over l at s bt y (⊎-elim (λ p. inr p) (λ p. inl (omega arith)) h))
+    (over-comm (set l bt y) at s (suc bt) t (⊎-elim (λ p. inl (omega arith)) (λ p. inr (omega arith)) h)))
 
 pub over-inside : (l : List ℕ) (at : ℕ) (s : List ℕ) (j : ℕ) (t : List ℕ) → j + length t ≤ length s
     → over (over l at s) (at + j) t ≡ over l at (over s j t)
-unfolding over
-over-inside l at s j [] h = refl
+over-inside l at s j [] h = simp over-none
 over-inside l at s j (y ∷ t) h =
     let e : suc (at + j) ≡ at + suc j = omega arith in
     let k : length (set s j y) ≡ length s = length-set s j y in
-    rw (set-inside l at s j y (omega arith), e) (over-inside l at (set s j y) (suc j) t (omega arith))
+    simp over-store (rw (set-inside l at s j y (omega arith), e) (over-inside l at (set s j y) (suc j) t (omega arith)))
 
 pub over-append : (l : List ℕ) (at : ℕ) (s t : List ℕ) → over l at (s ++ t) ≡ over (over l at s) (at + length s) t
-unfolding over
-over-append l at [] t = rw add-zero
+over-append l at [] t = rw (over-none, add-zero)
 over-append l at (x ∷ s) t =
     let e : suc at + length s ≡ at + suc (length s) = omega arith in
-    over-append (set l at x) (suc at) s t ∙ rw e
+    simp over-store (over-append (set l at x) (suc at) s t ∙ rw e)
 
 -- a run that stands there already changes nothing
 pub over-same : (l : List ℕ) (at : ℕ) (s : List ℕ) → ((i : ℕ) → i < length s → getD s i 0 ≡ getD l (at + i) 0) → over l at s ≡ l
-unfolding over
-over-same l at [] f = refl
+over-same l at [] f = over-none l at
 over-same l at (x ∷ s) f =
     let z : x ≡ getD l at 0 = rw add-zero at (f 0 (omega arith)) in
     let e : set l at x ≡ l = rw z (set-getD l at 0) in
-    rw (over, e) (over-same l (suc at) s
+    rw (over-store, e) (over-same l (suc at) s
     (λ i w. let k : at + suc i ≡ suc at + i = omega arith in rw k at (f (suc i) (omega arith))))
 
 -- As lists joined -------------------------------------------------------------------------------------------------------
 -- What stands before the run, the run, and what stands behind it.
 
 over-sets : (l : List ℕ) (at : ℕ) (s : List ℕ) → over l at s ≡ sets l at s
-unfolding over
-over-sets l at [] = refl
-over-sets l at (x ∷ s) = over-sets (set l at x) (suc at) s
+over-sets l at [] = over-none l at
+over-sets l at (x ∷ s) = over-store l at x s ∙ over-sets (set l at x) (suc at) s
 
 pub over-eq : (l : List ℕ) (at : ℕ) (s : List ℕ) → at + length s ≤ length l → over l at s ≡ take at l ++ s ++ drop (at + length s) l
 over-eq l at s h = over-sets l at s ∙ sets-eq s l at h
@@ -132,22 +133,17 @@ over-all l s e = over-front l s (omega arith) ∙ rw (drop-of-length-le l {i = l
 -- A run within one of them is written there.
 
 pub over-first : (a b : List ℕ) (at : ℕ) (s : List ℕ) → at + length s ≤ length a → over (a ++ b) at s ≡ over a at s ++ b
-unfolding over
-over-first a b at [] h = refl
+over-first a b at [] h = simp over-none
 over-first a b at (x ∷ s) h =
     let k : length (set a at x) ≡ length a = length-set a at x in
-    rw (set-append-left a b at x (omega arith)) (over-first (set a at x) b (suc at) s (omega arith))
-
-over-tail : (x : ℕ) (l : List ℕ) (j : ℕ) (s : List ℕ) → over (x ∷ l) (suc j) s ≡ x ∷ over l j s
-unfolding over
-over-tail x l j [] = refl
-over-tail x l j (y ∷ s) = over-tail x (set l j y) (suc j) s
+    simp over-store (rw (set-append-left a b at x (omega arith)) (over-first (set a at x) b (suc at) s (omega arith)))
 
 pub over-second : (a b : List ℕ) (at : ℕ) (s : List ℕ) → over (a ++ b) (length a + at) s ≡ a ++ over b at s
+unfolding over
 over-second [] b at s = rw zero-add
 over-second (x ∷ a) b at s =
     let e : suc (length a) + at ≡ suc (length a + at) = omega arith in
-    rw e (over-tail x (a ++ b) (length a + at) s ∙ rw (over-second a b at s))
+    rw e (ap (λ (m : List ℕ). x ∷ m) (over-second a b at s))
 
 pub over-past : (a b s : List ℕ) → over (a ++ b) (length a) s ≡ a ++ over b 0 s
 over-past a b s = rw add-zero at (over-second a b 0 s)

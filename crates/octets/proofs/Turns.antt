@@ -9,15 +9,14 @@ use native.Mathlib.Omega.{arith}
 use lib.ListN.{length, take, drop, getD, set, length-take, length-drop, drop-of-length-le, replicate-append-replicate}
 use lib.Seq.{take-suc, drop-cons, getD-drop}
 use Rattle.octets.specs.Runs.{over, part, zeros}
-use Rattle.octets.proofs.Over.{length-zeros, set-over, over-none, over-append, getD-over-out}
+use Rattle.octets.proofs.Over.{length-zeros, set-over, over-none, over-store, over-append, getD-over-out}
 use Rattle.octets.proofs.Part.{part-length, part-at}
 
 -- Upwards ---------------------------------------------------------------------------------------------------------------
 -- The byte behind the run makes it longer by one.
 
 pub over-snoc : (l : List ℕ) (at : ℕ) (s : List ℕ) (x : ℕ) → set (over l at s) (at + length s) x ≡ over l at (s ++ (x ∷ []))
-unfolding over
-over-snoc l at s x = sym (over-append l at s (x ∷ []))
+over-snoc l at s x = sym (over-append l at s (x ∷ []) ∙ rw (over-store, over-none))
 
 pub turn-up : (l : List ℕ) (at : ℕ) (s s′ b : List ℕ) (i x : ℕ) → b ≡ over l at s → at + length s ≡ i → s ++ (x ∷ []) ≡ s′
     → set b i x ≡ over l at s′
@@ -57,8 +56,7 @@ down-turn l to from i b e h r =
 -- The byte in front of the run makes it longer by one.
 
 pub over-cons : (l : List ℕ) (at : ℕ) (s : List ℕ) (x : ℕ) → set (over l (suc at) s) at x ≡ over l at (x ∷ s)
-unfolding over
-over-cons l at s x = set-over l (suc at) s at x (inl (omega arith))
+over-cons l at s x = rw over-store (set-over l (suc at) s at x (inl (omega arith)))
 
 pub turn-down : (l : List ℕ) (at : ℕ) (s b : List ℕ) (i x : ℕ) → b ≡ over l at s → suc i ≡ at → set b i x ≡ over l i (x ∷ s)
 turn-down l at s b i x e k = rw (e, ← k) (over-cons l i s x)

@@ -10,7 +10,7 @@ use lib.ListN.{length, getD, set, List·getD-append}
 use lib.Seq.{drop-cons, getD-append-add}
 use Rattle.octets.specs.Numbers.{word16, word32, bytes16, bytes32}
 use Rattle.octets.specs.Runs.{over, part}
-use Rattle.octets.proofs.Over.{getD-over-out, getD-over-in}
+use Rattle.octets.proofs.Over.{over-none, over-store, getD-over-out, getD-over-in}
 use Rattle.octets.proofs.Part.{part-at, part-add, over-part}
 
 -- Written ---------------------------------------------------------------------------------------------------------------
@@ -25,13 +25,13 @@ unfolding bytes32
 length-bytes32 x = refl
 
 pub set-bytes16 : (l : List ℕ) (at x : ℕ) → set (set l at (x % 256)) (at + 1) (x / 256) ≡ over l at (bytes16 x)
-unfolding over bytes16
-set-bytes16 l at x = rw add-one
+unfolding bytes16
+set-bytes16 l at x = rw add-one (simp (over-store, over-none))
 
 pub set-bytes32 : (l : List ℕ) (at x : ℕ)
     → set (set (set (set l at (x % 256)) (at + 1) (x / 256 % 256)) (at + 2) (x / 65536 % 256)) (at + 3) (x / 16777216) ≡ over l at (bytes32 x)
-unfolding over bytes32
-set-bytes32 l at x = rw (add-one, add-two, add-three)
+unfolding bytes32
+set-bytes32 l at x = rw (add-one, add-two, add-three) (simp (over-store, over-none))
 
 -- Read elsewhere --------------------------------------------------------------------------------------------------------
 -- A number goes by its bytes alone: apart from a write it is as it was, within a run it is the run's, and in a part or in lists joined it is that of the place.

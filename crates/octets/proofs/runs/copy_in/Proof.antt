@@ -1,11 +1,12 @@
 -- Each turn writes the next byte of the source behind those written, so the run grows by one.
-use mathlib.Core.Path.{_≡_, refl}
+use mathlib.Core.Path.{_≡_, refl, sym}
 use Prim.Native.Nat.{_-_, _≤_}
 use native.Mathlib.Omega.{arith}
 use borrow.Author.Needs.{needs}
 use lib.ListN.{length, take, length-set}
 use lib.Seq.{take-length}
 use Rattle.octets.specs.Runs.{over}
+use Rattle.octets.proofs.Over.{over-none}
 use Rattle.octets.proofs.Turns.{take-turn}
 use Rattle.octets.proofs.runs.copy_in.Statement.{statement}
 use Rattle.octets.proofs.runs.copy_in.Tie as tie
@@ -17,8 +18,7 @@ abbrev μ-loop : tie.MeasureT-loop
 μ-loop dst₀ src start i₀ dst i = length src - i
 
 loop-holds : tie.Need-loop-holds Inv-loop μ-loop
-unfolding over
-loop-holds c = (search needs, refl, refl)
+loop-holds c = (search needs, refl, sym (over-none _ _))
 
 loop-again : tie.Need-loop-again Inv-loop μ-loop
 loop-again c = (search needs, simp length-set (omega arith), take-turn _ _ _ _ _ (c .before .before .loop .inv .2) (omega arith))

@@ -1,10 +1,11 @@
 -- From the first byte on, no byte is read once it is written over, so each turn moves one more of those that stood there.
-use mathlib.Core.Path.{_≡_, refl}
+use mathlib.Core.Path.{_≡_, refl, sym}
 use Prim.Native.Nat.{_-_, _≤_}
 use native.Mathlib.Omega.{arith}
 use borrow.Author.Needs.{needs}
 use lib.ListN.{length, length-set}
 use Rattle.octets.specs.Runs.{over, part}
+use Rattle.octets.proofs.Over.{over-none}
 use Rattle.octets.proofs.Turns.{down-turn}
 use Rattle.octets.proofs.runs.move_down.Statement.{statement}
 use Rattle.octets.proofs.runs.move_down.Tie as tie
@@ -16,8 +17,8 @@ abbrev μ-loop : tie.MeasureT-loop
 μ-loop b₀ n low high i₀ b i = n - i
 
 loop-holds : tie.Need-loop-holds Inv-loop μ-loop
-unfolding over part
-loop-holds c = (search needs, refl, refl)
+unfolding part
+loop-holds c = (search needs, refl, sym (over-none _ _))
 
 loop-again : tie.Need-loop-again Inv-loop μ-loop
 loop-again c = (search needs, simp length-set (omega arith), down-turn _ _ _ _ _ (c .before .before .loop .inv .2) (omega arith) (omega arith))

@@ -1,10 +1,11 @@
 -- Each turn writes one more zero behind those written, so the run grows by one.
-use mathlib.Core.Path.{_≡_, refl}
+use mathlib.Core.Path.{_≡_, refl, sym}
 use Prim.Native.Nat.{_-_, _≤_}
 use native.Mathlib.Omega.{arith}
 use borrow.Author.Needs.{needs}
 use lib.ListN.{length, length-set}
 use Rattle.octets.specs.Runs.{over, zeros}
+use Rattle.octets.proofs.Over.{over-none}
 use Rattle.octets.proofs.Turns.{zeros-turn}
 use Rattle.octets.proofs.runs.zero.Statement.{statement}
 use Rattle.octets.proofs.runs.zero.Tie as tie
@@ -16,8 +17,8 @@ abbrev μ-loop : tie.MeasureT-loop
 μ-loop b₀ n start i₀ b i = n - i
 
 loop-holds : tie.Need-loop-holds Inv-loop μ-loop
-unfolding over zeros
-loop-holds c = (search needs, refl, refl)
+unfolding zeros
+loop-holds c = (search needs, refl, sym (over-none _ _))
 
 loop-again : tie.Need-loop-again Inv-loop μ-loop
 loop-again c = (search needs, simp length-set (omega arith), zeros-turn _ _ _ _ (c .before .loop .inv .2))
