@@ -5,3 +5,4 @@ pub mod Words
 pub mod Turns
 pub mod Compare
 pub mod Order
+pub mod Flags

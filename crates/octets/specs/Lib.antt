@@ -1,4 +1,5 @@
 pub mod Choice
+pub mod Says
 pub mod Runs
 pub mod Numbers
 pub mod Keys

@@ -2,6 +2,7 @@ ghost use mathlib.Core.Path.{_≡_};
 ghost use Prim.Native.Nat.{_+_, _≤_};
 ghost use lib.ListN.{length};
 ghost use Rattle.octets.specs.Runs.{over, part, zeros};
+ghost use Rattle.octets.specs.Says.{Says};
 use super::places::Offset;
 
 // Zeroes n bytes from an offset on.
@@ -56,4 +57,20 @@ pub fn move_up(b: &mut [u8], to: Offset, from: Offset, n: usize)
         i -= 1;
         b[high + i] = b[low + i];
     }
+}
+
+// Whether all bytes are zero. (Every byte is looked at: a test at each would keep the machine from taking many at once.)
+pub fn blank(b: &[u8]) -> bool
+    ensures { λ r. ⌜ Says r (now (b .entry) ≡ zeros (length (now (b .entry)))) ⌝ }
+{
+    let mut seen: u8 = 0;
+    let mut i = 0;
+    while i < b.len() {
+        seen |= b[i];
+        i += 1;
+    }
+    if seen != 0 {
+        return false;
+    }
+    true
 }
