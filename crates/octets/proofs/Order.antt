@@ -1,5 +1,5 @@
 -- The order of keys: `compareKeys` decides it, and it is strict and total.
-use mathlib.Core.Path.{_≡_, refl, sym}
+use mathlib.Core.Path.{_≡_, refl, sym, ap, _∙_}
 use mathlib.Core.Bool.{true, false, true≢false, false≢true}
 use mathlib.Core.List.{List, [], _∷_, _++_}
 use mathlib.Core.Logic.{_⊎_, inl, inr}
@@ -160,3 +160,8 @@ by-keys P a b x y z f g h = compared (λ o. P (three o x y z)) a b f g h
 
 pub by-before : {A : Type 0} (P : A → Type 0) (a b : List ℕ) (x y : A) → (a ≺ b → P x) → ((a ≺ b → ⊥) → P y) → P (choose (before a b) x y)
 by-before P a b x y f g = either-by P (before a b) x y (λ e. f (before→≺ a b e)) (λ e. g (not-before→ a b e))
+
+-- the test by a comparison's answer
+pub before-by : (a b : List ℕ) (o x : Order) → o ≡ compareKeys a b → o ≡ x → isLess x ≡ before a b
+unfolding before
+before-by a b o x e f = ap isLess (sym f ∙ e)

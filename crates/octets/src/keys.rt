@@ -1,5 +1,5 @@
 ghost use mathlib.Core.Path.{_≡_};
-ghost use Rattle.octets.specs.Keys.{compareKeys};
+ghost use Rattle.octets.specs.Keys.{compareKeys, before};
 
 // Which of two keys comes first.
 pub enum Order {
@@ -31,4 +31,16 @@ pub fn compare(a: &[u8], b: &[u8]) -> Order
         return Order::Less;
     }
     Order::Equal
+}
+
+// Whether a key comes before another.
+pub fn before(a: &[u8], b: &[u8]) -> bool
+    ensures { λ r. ⌜ r ≡ before (now (a .entry)) (now (b .entry)) ⌝ }
+{
+    let o = compare(a, b);
+    match o {
+        Order::Less => true,
+        Order::Equal => false,
+        Order::Greater => false,
+    }
 }

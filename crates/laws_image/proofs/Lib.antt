@@ -1,0 +1,19 @@
+-- The laws of this crate, in reading order:
+pub mod Sundry
+pub mod Layouts
+pub mod LeafPages
+pub mod Standing
+pub mod Cell
+pub mod Tree
+pub mod Valid
+pub mod Once
+pub mod Numbered
+pub mod PagesMet
+pub mod Wide
+pub mod Cut
+pub mod Whole
+pub mod ByPages
+pub mod Roles
+pub mod Counts
+pub mod Chains
+pub mod Again

@@ -1,0 +1,21 @@
+-- The laws of this crate, in reading order:
+pub mod Sundry
+pub mod Items
+pub mod Reading
+pub mod Line
+pub mod Neighbours
+pub mod Peopled
+pub mod Bounds
+pub mod Growing
+pub mod Parting
+pub mod Mending
+pub mod Placing
+pub mod FiniteMap
+pub mod Members
+pub mod Ranges
+pub mod Descent
+pub mod InLeaf
+pub mod Changes
+pub mod Search
+pub mod Finding
+pub mod Viewing

@@ -1,0 +1,5 @@
+-- What the laws of this crate speak of:
+pub mod Sundry
+pub mod Reading
+pub mod Line
+pub mod Finding

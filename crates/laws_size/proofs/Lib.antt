@@ -1,0 +1,26 @@
+-- The laws of this crate, in reading order:
+pub mod Sundry
+pub mod Pages
+pub mod Full
+pub mod Cells
+pub mod Halves
+pub mod Places
+pub mod Nodes
+pub mod Trees
+pub mod Taken
+pub mod Filling
+pub mod Growth
+pub mod Weights
+pub mod Upward
+pub mod Down
+pub mod Kept
+pub mod Once
+pub mod Mended
+pub mod Room
+pub mod Count
+pub mod Levels
+pub mod Formatted
+pub mod Throughout
+pub mod Bools
+pub mod Sized
+pub mod Start
