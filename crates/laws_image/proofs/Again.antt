@@ -21,7 +21,8 @@ use Rattle.model.specs.Sizes.{inlineMost, payload, chainMost, chainLength}
 use Rattle.model.specs.Layouts.{OverPage, LeafPage, Placed, InnerPage, toFree, ofFree, toOver, ofOver, toInner, ofInner, toLeaf, ofLeaf, cellSize}
 use Rattle.model.specs.Image.{Page, cellBytes, placed, numbered, innerPage, leafPage, chainPages, freePages, firstLeaf, lastLeaf, linked, treePages}
 use Rattle.model.specs.Decode.{chainFrom, freeFrom, heldBy, reach, innerOf, cellFrom, cellOf, leafOf, treeAt}
-use Rattle.laws_image.proofs.Sundry.{All, nil, cons, all-cons, cases}
+use Rattle.model.proofs.Tests.{cases}
+use Rattle.model.proofs.Each.{All, nil, cons, all-cons}
 use Rattle.laws_image.proofs.Layouts.{ofFree-toFree, ofOver-toOver}
 use Rattle.laws_image.proofs.LeafPages.{GoodLeaf, ofLeaf-toLeaf}
 use Rattle.laws_image.proofs.Standing.{Standing}

@@ -21,7 +21,9 @@ use Rattle.model.specs.Accept.{valid, accepts}
 use Rattle.model.specs.Refusals.{goodImage}
 use Rattle.model.proofs.Editions.{Lawful}
 use Rattle.model.proofs.Tests.{eqb-iff, between-iff, and-true}
-use Rattle.laws_image.proofs.Sundry.{same-refl, getD-map-from, gather-ext, gather-suc, all-from, nil, cons, is-other, times-nil, times-cons}
+use Rattle.model.proofs.Each.{all-from, nil, cons}
+use Rattle.model.proofs.Lists.{same-refl, getD-map-from, gather-ext, gather-suc}
+use Rattle.model.proofs.Sums.{is-other, times-nil, times-cons}
 use Rattle.laws_image.proofs.Standing.{Standing}
 use Rattle.laws_image.proofs.Valid.{clauses}
 use Rattle.laws_image.proofs.Numbered.{numbers, numbers-pages}

@@ -17,7 +17,8 @@ use Rattle.model.specs.Sizes.{inlineMost, payload, chainMost, valueMost, chainL
 use Rattle.model.specs.Layouts.{cellSize}
 use Rattle.model.specs.Image.{cellBytes, chainPages, placed}
 use Rattle.model.specs.Decode.{cellFrom, cellOf, chainFrom, heldBy}
-use Rattle.laws_image.proofs.Sundry.{cases, choose-ap}
+use Rattle.model.proofs.Tests.{cases}
+use Rattle.laws_image.proofs.Sundry.{choose-ap}
 use Rattle.laws_image.proofs.Standing.{Standing, chainFrom-standing, heldBy-standing}
 
 -- ---- a cell's length

@@ -10,8 +10,8 @@ use Rattle.model.specs.Edition.{Edition}
 use Rattle.model.specs.Types.{Store, walk, met}
 use Rattle.model.specs.Accept.{valid}
 use Rattle.model.proofs.Lists.{total-map, times-total}
+use Rattle.model.proofs.Sums.{is, times-cons, times-append, total-mono}
 use Rattle.laws_image.specs.Marks.{chains}
-use Rattle.laws_image.proofs.Sundry.{is, times-cons, times-append, total-mono}
 use Rattle.laws_image.proofs.Numbered.{places, met-walk}
 use Rattle.laws_image.proofs.PagesMet.{page-most}
 use Rattle.laws_image.proofs.Counts.{overflow, total-chains}

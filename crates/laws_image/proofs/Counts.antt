@@ -13,9 +13,10 @@ use Rattle.model.specs.Edition.{Edition}
 use Rattle.model.specs.Types.{Leaf, Inner, Tree, Store, Mark, across, leaves, marked, walk, walked}
 use Rattle.model.specs.Accept.{valid}
 use Rattle.model.specs.Refusals.{roles}
+use Rattle.model.proofs.Each.{all-each}
 use Rattle.model.proofs.Lists.{total-map, total-nil, total-cons, total-append, length-total}
+use Rattle.model.proofs.Sums.{is, is-other, total-ext, total-zero, total-none, total-gather}
 use Rattle.laws_image.specs.Marks.{chainsOf, chains}
-use Rattle.laws_image.proofs.Sundry.{all-each, is, is-other, total-ext, total-zero, total-none, total-gather}
 use Rattle.laws_image.proofs.Roles.{roles-walked}
 
 -- ---- sums over the walk

@@ -18,7 +18,9 @@ use Rattle.model.specs.Image.{Page, pageAt, pages, encode}
 use Rattle.model.specs.Decode.{cut}
 use Rattle.model.specs.Accept.{valid}
 use Rattle.model.proofs.Editions.{Lawful}
-use Rattle.laws_image.proofs.Sundry.{getD-map-from, All, nil, cons, all-of, all-both, all-of-map, found-own}
+use Rattle.model.proofs.Each.{All, nil, cons, all-of, all-both, all-of-map}
+use Rattle.model.proofs.Lists.{getD-map-from}
+use Rattle.model.proofs.Sums.{found-own}
 use Rattle.laws_image.proofs.Standing.{Standing}
 use Rattle.laws_image.proofs.Valid.{sound}
 use Rattle.laws_image.proofs.PagesMet.{page-most, page-below}

@@ -12,8 +12,9 @@ use Rattle.model.specs.Lists.{gather, from, pad}
 use Rattle.model.specs.Types.{Sep}
 use Rattle.model.specs.Sizes.{keyMost, innerMost}
 use Rattle.model.specs.Layouts.{HeadPage, InnerPage, OverPage, toHead, ofHead, toFree, ofFree, toOver, ofOver, recordBytes, toInner, recordOf, ofInner}
-use Rattle.model.proofs.Lists.{length-pad}
-use Rattle.laws_image.proofs.Sundry.{All, nil, cons, Reads, none, one, map-from, word16-drop}
+use Rattle.model.proofs.Each.{All, nil, cons}
+use Rattle.model.proofs.Lists.{length-pad, Reads, none, one, map-from}
+use Rattle.laws_image.proofs.Sundry.{word16-drop}
 
 -- ---- header
 

@@ -14,8 +14,9 @@ use Rattle.octets.proofs.Part.{part-over-out, part-here}
 use Rattle.octets.proofs.Words.{word16-over-out, word16-front}
 use Rattle.model.specs.Lists.{gather, from, pad}
 use Rattle.model.specs.Layouts.{Placed, LeafPage, slotBytes, leafTop, withCells, toLeaf, cellSize, placedAt, slotOf, ofLeaf}
-use Rattle.model.proofs.Lists.{length-pad}
-use Rattle.laws_image.proofs.Sundry.{All, nil, cons, Reads, none, one, map-from, word16-drop}
+use Rattle.model.proofs.Each.{All, nil, cons}
+use Rattle.model.proofs.Lists.{length-pad, Reads, none, one, map-from}
+use Rattle.laws_image.proofs.Sundry.{word16-drop}
 
 -- ---- good leaves
 

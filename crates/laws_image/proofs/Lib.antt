@@ -6,13 +6,13 @@ pub mod Standing
 pub mod Cell
 pub mod Tree
 pub mod Valid
-pub mod Once
 pub mod Numbered
 pub mod PagesMet
 pub mod Wide
 pub mod Cut
 pub mod Whole
 pub mod ByPages
+pub mod InPlace
 pub mod Roles
 pub mod Counts
 pub mod Chains

@@ -11,17 +11,19 @@ use Rattle.model.specs.Lists.{times}
 use Rattle.model.specs.Edition.{Edition}
 use Rattle.model.specs.Types.{Store, walk, met}
 use Rattle.model.specs.Accept.{valid}
-use Rattle.laws_image.proofs.Sundry.{All, cons, all-of, all-parts, cases, is-same, is-other, times-cons}
+use Rattle.model.proofs.Tests.{cases}
+use Rattle.model.proofs.Each.{All, cons, all-of, all-parts}
+use Rattle.model.proofs.Sums.{is-same, is-other, times-cons}
+use Rattle.model.proofs.OnceEach.{Once, once-iff, once-zero, once-above}
 use Rattle.laws_image.proofs.Standing.{Proper}
 use Rattle.laws_image.proofs.Valid.{clauses}
-use Rattle.laws_image.proofs.Once.{Once, once, once-zero, once-above}
 use Rattle.laws_image.proofs.Numbered.{places, met-walk}
 
 module _ (E : Edition) (s : Store) (t : valid E s ≡ true) where
   -- ---- the pages met
 
   pub met-each : Once (s .n) (met s)
-  met-each = let k = clauses E s t in once (s .n) (met s) (k .once) (omega arith)
+  met-each = let k = clauses E s t in once-iff (s .n) (met s) .0 (k .once)
 
   pub met-once : (p : ℕ) → 1 ≤ p → p < s .n → times p (met s) ≡ 1
   met-once p g h = met-each .each p g h

@@ -14,9 +14,10 @@ use Rattle.model.specs.Edition.{Edition}
 use Rattle.model.specs.Types.{Leaf, Inner, Tree, Store, Mark, across, marked, walk, walked, met}
 use Rattle.model.specs.Accept.{valid}
 use Rattle.model.specs.Refusals.{roleAt, roles}
-use Rattle.model.proofs.Lists.{total-map, total-cons, times-total, length-from, length-total}
+use Rattle.model.proofs.Each.{All, cons, all-of, all-append, all-map, all-gather, all-of-map, all-both, all-from}
+use Rattle.model.proofs.Lists.{total-map, total-cons, times-total, length-from, length-total, getD-map-from}
+use Rattle.model.proofs.Sums.{is, is-same, is-other, times-from, found-own, total-add, total-ext, total-none, total-numbers}
 use Rattle.laws_image.specs.Marks.{marks}
-use Rattle.laws_image.proofs.Sundry.{getD-map-from, All, cons, all-of, all-append, all-map, all-gather, all-of-map, all-both, all-from, is, is-same, is-other, times-from, found-own, total-add, total-ext, total-none, total-numbers}
 use Rattle.laws_image.proofs.Valid.{clauses}
 use Rattle.laws_image.proofs.Numbered.{places}
 use Rattle.laws_image.proofs.PagesMet.{met-each, page-once, page-most, page-below}

@@ -12,7 +12,7 @@ use Rattle.model.specs.Lists.{gather, headOr}
 use Rattle.model.specs.Sizes.{payload}
 use Rattle.model.specs.Image.{Page, chainPages, freePages}
 use Rattle.model.specs.Decode.{chainFrom, freeFrom, heldBy}
-use Rattle.laws_image.proofs.Sundry.{All, nil, cons}
+use Rattle.model.proofs.Each.{All, nil, cons}
 use Rattle.laws_image.proofs.Layouts.{ofFree-toFree, ofOver-toOver}
 
 -- the pages qs stand at their numbers in an image whose pages have the usable bytes ps

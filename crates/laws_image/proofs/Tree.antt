@@ -11,7 +11,7 @@ use Rattle.model.specs.Sizes.{keyMost, innerMost}
 use Rattle.model.specs.Layouts.{toLeaf, toInner, ofInner, ofLeaf}
 use Rattle.model.specs.Image.{Page, chainPages, numbered, firstLeaf, lastLeaf, linked, treePages, placed, leafPage, innerPage}
 use Rattle.model.specs.Decode.{reach, innerOf, cellOf, leafOf, treeAt}
-use Rattle.laws_image.proofs.Sundry.{All, nil, cons, all-cons, all-parts}
+use Rattle.model.proofs.Each.{All, nil, cons, all-cons, all-parts}
 use Rattle.laws_image.proofs.Standing.{Standing}
 use Rattle.laws_image.proofs.LeafPages.{GoodLeaf, ofLeaf-toLeaf}
 use Rattle.laws_image.proofs.Layouts.{ShortKeys, ofInner-toInner}

@@ -15,7 +15,7 @@ use Rattle.model.specs.Sizes.{keyMost, innerLeast, innerMost, cellLength}
 use Rattle.model.specs.Image.{cellBytes, placed, leafPage}
 use Rattle.model.specs.Accept.{everyChild, throughout, keyFits, cellFits, lengthsFit, inside, apart, allApart, cellsPlaced, leavesPlaced, allRising, allBounded, full, fullBelow, onceEach, valid}
 use Rattle.model.proofs.Tests.{between-iff}
-use Rattle.laws_image.proofs.Sundry.{All, nil, cons, all-every}
+use Rattle.model.proofs.Each.{All, nil, cons, all-of, every→all}
 use Rattle.laws_image.proofs.LeafPages.{Sits, Clear, Cells, no-cell, a-cell, GoodLeaf}
 use Rattle.laws_image.proofs.Cell.{Fine, length-cellBytes, cellSize-cellBytes}
 use Rattle.laws_image.proofs.Tree.{SoundLeaf, SoundSep, Sound}
@@ -123,7 +123,7 @@ module _ (L : ℕ) where
   unfolding lengthsFit leavesPlaced throughout
   sound-leaf t a b =
       let k = simp and-eq-true-iff at a in
-      record { page = λ prev next. good-leaf L t prev next b; cells = all-every (cellFits L) (fine L) (t .cells) (k .0) }
+      record { page = λ prev next. good-leaf L t prev next b; cells = all-of (fine L) (every→all (cellFits L) (t .cells) (k .0)) }
 
   lengths-inner : (h : ℕ) (t : Inner (Tree h)) → lengthsFit L (suc h) t ≡ true
       → (every (λ s. keyFits (s .key)) (t .rest) ≡ true) × (everyChild (lengthsFit L h) t ≡ true)

@@ -15,7 +15,8 @@ use Rattle.model.specs.Image.{headPage, treePages, freePages, pages, encode}
 use Rattle.model.specs.Decode.{cut, storeOf, decodePages, decode}
 use Rattle.model.specs.Accept.{valid, accepts}
 use Rattle.model.proofs.Editions.{Lawful}
-use Rattle.laws_image.proofs.Sundry.{same-refl, same-eq, cons, all-cons, all-append, all-parts}
+use Rattle.model.proofs.Each.{cons, all-cons, all-append, all-parts}
+use Rattle.model.proofs.Lists.{same-refl, same-eq}
 use Rattle.laws_image.proofs.Layouts.{ofHead-toHead}
 use Rattle.laws_image.proofs.Standing.{Standing, freeFrom-standing}
 use Rattle.laws_image.proofs.Tree.{treeAt-standing}

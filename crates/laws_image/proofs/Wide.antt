@@ -10,7 +10,7 @@ use Rattle.model.specs.Types.{Cell, Leaf, Sep, Tree, Store}
 use Rattle.model.specs.Sizes.{payload, innerMost}
 use Rattle.model.specs.Image.{Page, chainPages, freePages, firstLeaf, lastLeaf, linked, treePages, pages, leafPage, innerPage, headPage}
 use Rattle.model.proofs.Editions.{Lawful}
-use Rattle.laws_image.proofs.Sundry.{All, nil, cons, all-append}
+use Rattle.model.proofs.Each.{All, nil, cons, all-append}
 use Rattle.laws_image.proofs.LeafPages.{GoodLeaf, length-toLeaf}
 use Rattle.laws_image.proofs.Layouts.{length-toHead, length-toFree, length-toOver, length-toInner}
 use Rattle.laws_image.proofs.Tree.{treePages-leaf, treePages-inner, SoundLeaf, SoundSep, Sound, short-keys, few-records}

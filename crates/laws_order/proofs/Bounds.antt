@@ -12,10 +12,10 @@ use Rattle.model.specs.Edition.{Edition}
 use Rattle.model.specs.Types.{Cell, Leaf, Sep, Inner, Tree, Store, Entry, entry, entries}
 use Rattle.model.specs.Accept.{everyChild, throughout, rising, allRising, notBelow, below, bounded, allBounded, full, fullBelow, valid}
 use Rattle.model.proofs.Tests.{not-true, and-true}
-use Rattle.laws_order.specs.Sundry.{All, all-none, all-more}
+use Rattle.model.proofs.Each.{All, nil, cons, all-of, all-each, all-both, all-of-map, every→all, all→every, all-parts}
+use Rattle.laws_order.proofs.Sundry.{≺-between}
 use Rattle.laws_order.specs.Reading.{strung, rights}
 use Rattle.laws_order.specs.Line.{Item, real, wall, Above, Sorted, more-sorted, AllUnder, reals, fence, line, ofStore}
-use Rattle.laws_order.proofs.Sundry.{all-turn, all-of, all-both, all-map, all-left, every→all, all→every, ≺-between}
 use Rattle.laws_order.proofs.Items.{above-trans, above-tail, sorted-left, sorted-right, sorted-under, sorted-join, all-reals}
 use Rattle.laws_order.proofs.Neighbours.{rising-iff}
 use Rattle.laws_order.proofs.Line.{line-reals}
@@ -33,7 +33,7 @@ unfolding notBelow
 wall-before none e ys t s = s
 wall-before (some b) e ys t s =
     let u : e .key ≺ b → ⊥ = not-before→ (e .key) b (not-true _ t) in
-    more-sorted (all-more u (above-trans (wall b) (real e) u (above-tail s))) s
+    more-sorted (cons u (above-trans (wall b) (real e) u (above-tail s))) s
 
 -- a line that is peopled, so walled
 walled-sorted : (low : Option (List ℕ)) (xs ys : List Item) → (p : Peopled xs) → notBelow low (p .first .key) ≡ true → Sorted (xs ++ ys) → Sorted (walled low (xs ++ ys))
@@ -54,10 +54,10 @@ module _ {A : Type 0} (m : A → List Item) (es : A → List Entry) (same : (a :
   bounded-sorted : (low : Option (List ℕ)) (a : A) (ss : List (Sep A)) → Good (m a) → All (λ s. Good (m (s .child))) ss → bounded es low a ss ≡ true
       → Sorted (walled low (m a ++ rights fence m ss))
   unfolding bounded rights gather below
-  bounded-sorted low a [] g all-none t =
+  bounded-sorted low a [] g nil t =
       let k = ends-pass (λ e. notBelow low (e .key)) (g .peopled) (rw (← same a) at t) in
       walled-sorted low (m a) [] (g .peopled) (k .0) (rw append-nil (g .sorted))
-  bounded-sorted low a (s ∷ ss) g (all-more h hs) t =
+  bounded-sorted low a (s ∷ ss) g (cons h hs) t =
       let k = simp and-eq-true-iff at t in
       let q = ends-pass (λ e. notBelow low (e .key) && below (some (s .key)) (e .key)) (g .peopled) (rw (← same a) at (k .0)) in
       let first = simp and-eq-true-iff at (q .0) in
@@ -70,13 +70,13 @@ module _ {A : Type 0} (m : A → List Item) (es : A → List Entry) (same : (a :
 
 low-pass : (low : Option (List ℕ)) (xs ys : List Item) → Sorted (walled low (xs ++ ys)) → All (λ e. notBelow low (e .key) ≡ true) (reals xs)
 unfolding notBelow
-low-pass none xs ys s = all-of (λ e. refl) (reals xs)
+low-pass none xs ys s = all-each (λ e. refl) (reals xs)
 low-pass (some b) xs ys s =
-    all-turn (λ e u. ap not (not-before← (e .key) b u)) (all-map real (reals xs) (all-reals xs (all-left xs ys (above-tail s))))
+    all-of (λ e u. ap not (not-before← (e .key) b u)) (all-of-map _ real (reals xs) (all-reals xs (all-parts xs (above-tail s) .0)))
 
 high-pass : (xs : List Item) (k : List ℕ) (ys : List Item) → Sorted (xs ++ (wall k ∷ ys)) → All (λ e. below (some k) (e .key) ≡ true) (reals xs)
 unfolding below
-high-pass xs k ys s = all-turn (λ e u. ≺→before u) (all-map real (reals xs) (all-reals xs (sorted-under xs (wall k) ys s)))
+high-pass xs k ys s = all-of (λ e u. ≺→before u) (all-of-map _ real (reals xs) (all-reals xs (sorted-under xs (wall k) ys s)))
 
 unwalled : (low : Option (List ℕ)) (xs : List Item) → Sorted (walled low xs) → Sorted xs
 unwalled none xs s = s
@@ -87,7 +87,7 @@ apart : (j k : List ℕ) (xs ys : List Item) → Peopled xs → Sorted (wall j �
 apart j k xs ys p (more-sorted a s) = go (rw (p .starts) at a) (rw (p .starts) at (sorted-under xs (wall k) ys s))
   where
     go : Above (wall j) (real (p .first) ∷ (p .onwards ++ (wall k ∷ ys))) → AllUnder k (real (p .first) ∷ p .onwards) → j ≺ k
-    go (all-more u b) (all-more v c) = ≺-between u v
+    go (cons u b) (cons v c) = ≺-between u v
 
 module _ {A : Type 0} (m : A → List Item) (es : A → List Entry) (same : (a : A) → reals (m a) ≡ es a) where
   sorted-bounded : (low : Option (List ℕ)) (a : A) (ss : List (Sep A)) → Sorted (walled low (m a ++ rights fence m ss)) → bounded es low a ss ≡ true
@@ -97,20 +97,20 @@ module _ {A : Type 0} (m : A → List Item) (es : A → List Entry) (same : (a :
       let R = m (x .child) ++ rights fence m ss in
       let o = unwalled low (m a ++ (wall (x .key) ∷ R)) s in
       let here : every (λ e. notBelow low (e .key) && below (some (x .key)) (e .key)) (reals (m a)) ≡ true
-      = all→every _ (all-turn (λ e p. and-true _ _ (p .0) (p .1)) (all-both (low-pass low (m a) (wall (x .key) ∷ R) s) (high-pass (m a) (x .key) R o))) in
+      = all→every _ (all-of (λ e p. and-true _ _ (p .0) (p .1)) (all-both (low-pass low (m a) (wall (x .key) ∷ R) s) (high-pass (m a) (x .key) R o))) in
       and-true _ _ (rw (same a) at here) (sorted-bounded (some (x .key)) (x .child) ss (sorted-right (m a) (wall (x .key) ∷ R) o))
 
 module _ {A : Type 0} (m : A → List Item) where
   sorted-children : (ss : List (Sep A)) → Sorted (rights fence m ss) → All (λ s. Sorted (m (s .child))) ss
   unfolding rights gather
-  sorted-children [] s = all-none
-  sorted-children (x ∷ ss) (more-sorted a s) = all-more (sorted-left (m (x .child)) (rights fence m ss) s) (sorted-children ss (sorted-right (m (x .child)) (rights fence m ss) s))
+  sorted-children [] s = nil
+  sorted-children (x ∷ ss) (more-sorted a s) = cons (sorted-left (m (x .child)) (rights fence m ss) s) (sorted-children ss (sorted-right (m (x .child)) (rights fence m ss) s))
 
   sorted-rising : (ss : List (Sep A)) → All (λ s. Peopled (m (s .child))) ss → Sorted (rights fence m ss) → rising (map (λ s. s .key) ss) ≡ true
   unfolding rights gather rising
   sorted-rising [] ps s = refl
   sorted-rising (x ∷ []) ps s = refl
-  sorted-rising (x ∷ y ∷ ss) (all-more p ps) s =
+  sorted-rising (x ∷ y ∷ ss) (cons p ps) s =
       and-true (before (x .key) (y .key)) _
       (≺→before (apart (x .key) (y .key) (m (x .child)) (m (y .child) ++ rights fence m ss) p s))
       (sorted-rising (y ∷ ss) ps (sorted-right (wall (x .key) ∷ m (x .child)) (wall (y .key) ∷ (m (y .child) ++ rights fence m ss)) s))
@@ -138,7 +138,7 @@ module _ {A : Type 0} (m : A → List Item) (es : A → List Entry) (same : (a :
       let good : (a : A) → fine a ≡ true → rises a ≡ true → bounds a ≡ true → Good (m a)
       = λ a i j k. record { peopled = peopled a i; sorted = child a i .0 (j, k) } in
       bounded-sorted m es same none (t .first) (t .rest) (good (t .first) (f .one) (r .one) (b .one))
-      (all-turn (λ s p. good (s .child) (p .0) (p .1 .0) (p .1 .1)) (all-both (f .others) (all-both (r .others) (b .others)))) e
+      (all-of (λ s p. good (s .child) (p .0) (p .1 .0) (p .1 .1)) (all-both (f .others) (all-both (r .others) (b .others)))) e
 
   record Ordered (t : Inner A) : Type 0 where
     seps : rising (map (λ s. s .key) (t .rest)) ≡ true
@@ -151,12 +151,12 @@ module _ {A : Type 0} (m : A → List Item) (es : A → List Entry) (same : (a :
   node← t f s =
       let later = sorted-right (m (t .first)) (rights fence m (t .rest)) s in
       let first = child (t .first) (f .one) .1 (sorted-left (m (t .first)) (rights fence m (t .rest)) s) in
-      let others = all-turn (λ x p. child (x .child) (p .0) .1 (p .1)) (all-both (f .others) (sorted-children m (t .rest) later)) in
+      let others = all-of (λ x p. child (x .child) (p .0) .1 (p .1)) (all-both (f .others) (sorted-children m (t .rest) later)) in
       record {
-        seps = sorted-rising m (t .rest) (all-turn (λ x p. peopled (x .child) p) (f .others)) later;
+        seps = sorted-rising m (t .rest) (all-of (λ x p. peopled (x .child) p) (f .others)) later;
         within = sorted-bounded m es same none (t .first) (t .rest) s;
-        rise = record { one = first .0; others = all-turn (λ x p. p .0) others };
-        bound = record { one = first .1; others = all-turn (λ x p. p .1) others };
+        rise = record { one = first .0; others = all-of (λ x p. p .0) others };
+        bound = record { one = first .1; others = all-of (λ x p. p .1) others };
       }
 
   node-iff : (t : Inner A) → everyChild fine t ≡ true

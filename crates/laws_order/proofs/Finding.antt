@@ -9,10 +9,9 @@ use Rattle.model.specs.Types.{Cell, Store, Entry, entry, entries, toMap}
 use Rattle.model.specs.Map.{lookup}
 use Rattle.model.specs.InLeaf.{found, without}
 use Rattle.model.specs.Change.{spot, oldChain}
-use Rattle.laws_order.specs.Sundry.{All}
+use Rattle.model.proofs.Each.{All, all-of-map}
 use Rattle.laws_order.specs.Line.{Item, real, Sorted, AllUnder, Beyond, Rising, reals, ofStore, ahead, behind}
 use Rattle.laws_order.specs.Finding.{pick, firstFound, Only, found-none, found-one, Present}
-use Rattle.laws_order.proofs.Sundry.{all-map}
 use Rattle.laws_order.proofs.Items.{reals-append, reals-map, all-reals}
 use Rattle.laws_order.proofs.Line.{reals-store}
 use Rattle.laws_order.proofs.Search.{pick-around, pick-map, lookup-pick, found-pick}
@@ -24,10 +23,10 @@ use Rattle.laws_order.proofs.Descent.{spot-line, spot-found, spot-risin
 
 -- what is under a key, and beyond it, among the entries of a line
 pub keys-under : (k : List ℕ) (xs : List Item) → AllUnder k xs → All (λ e. e .key ≺ k) (reals xs)
-keys-under k xs b = all-map real (reals xs) (all-reals xs b)
+keys-under k xs b = all-of-map _ real (reals xs) (all-reals xs b)
 
 pub keys-beyond : (k : List ℕ) (xs : List Item) → Beyond k xs → All (λ e. k ≺ e .key) (reals xs)
-keys-beyond k xs a = all-map real (reals xs) (all-reals xs a)
+keys-beyond k xs a = all-of-map _ real (reals xs) (all-reals xs a)
 
 cells-lookup : (k : List ℕ) (cs : List Cell) → lookup k (map entry cs) ≡ Option·map (λ c. c .value) (firstFound (found k cs))
 unfolding entry

@@ -8,9 +8,8 @@ use Rattle.octets.specs.Keys.{three}
 use Rattle.octets.proofs.Order.{_≺_, ≺-trans, ≺-irrefl, order-lt, order-gt, order-same, compared, by-keys}
 use Rattle.model.specs.Types.{Entry}
 use Rattle.model.specs.Map.{lookup, insert, erase}
-use Rattle.laws_order.specs.Sundry.{all-none, all-more}
+use Rattle.model.proofs.Each.{nil, cons, all-of}
 use Rattle.laws_order.specs.Line.{real, more-sorted, Beyond, Rising}
-use Rattle.laws_order.proofs.Sundry.{all-turn}
 use Rattle.laws_order.proofs.Placing.{insert-local, erase-local}
 
 -- One comparison --------------------------------------------------------------------------------------------------------
@@ -37,7 +36,7 @@ lookup-cons k x xs ys e = rw e
 
 lookup-short : (k : List ℕ) (m : List Entry) → Beyond k (map real m) → lookup k m ≡ none
 lookup-short k [] a = lookup-nil k
-lookup-short k (x ∷ xs) (all-more h a) = lookup-before k x xs h
+lookup-short k (x ∷ xs) (cons h a) = lookup-before k x xs h
 
 -- Insert ----------------------------------------------------------------------------------------------------------------
 
@@ -64,7 +63,7 @@ lookup-insert-other k e (x ∷ xs) n =
     (λ p. lookup-cons k x _ _ (lookup-insert-other k e xs n))
 
 pub insert-rising : (e : Entry) (m : List Entry) → Rising m → Rising (insert e m)
-insert-rising e m r = rw append-nil at (insert-local e .keeps [] m [] all-none all-none (rw append-nil r))
+insert-rising e m r = rw append-nil at (insert-local e .keeps [] m [] nil nil (rw append-nil r))
 
 -- Erase -----------------------------------------------------------------------------------------------------------------
 
@@ -84,11 +83,11 @@ lookup-erase-other k j (x ∷ xs) (more-sorted a r) n =
     by-keys (λ (l : List Entry). lookup k l ≡ lookup k (x ∷ xs)) j (x .key) _ _ _
     (λ p. refl)
     (λ p. compared (λ o. lookup k xs ≡ lookup k (x ∷ xs)) k (x .key)
-    (λ h. lookup-short k xs (all-turn (λ y q. ≺-trans h q) a) ∙ sym (lookup-before k x xs h)) (λ q. absurd (n (q ∙ sym p))) (λ h. sym (lookup-past k x xs h)))
+    (λ h. lookup-short k xs (all-of (λ y q. ≺-trans h q) a) ∙ sym (lookup-before k x xs h)) (λ q. absurd (n (q ∙ sym p))) (λ h. sym (lookup-past k x xs h)))
     (λ p. lookup-cons k x _ _ (lookup-erase-other k j xs r n))
 
 pub erase-rising : (k : List ℕ) (m : List Entry) → Rising m → Rising (erase k m)
-erase-rising k m r = rw append-nil at (erase-local k .keeps [] m [] all-none all-none (rw append-nil r))
+erase-rising k m r = rw append-nil at (erase-local k .keeps [] m [] nil nil (rw append-nil r))
 
 -- What determines a map -------------------------------------------------------------------------------------------------
 
@@ -97,7 +96,7 @@ lookup-tails : (x y : Entry) (xs ys : List Entry) → Beyond (x .key) (map real 
     → ((k : List ℕ) → lookup k (x ∷ xs) ≡ lookup k (y ∷ ys)) → (k : List ℕ) → lookup k xs ≡ lookup k ys
 lookup-tails x y xs ys a b e f k =
     compared (λ o. lookup k xs ≡ lookup k ys) k (x .key)
-    (λ h. lookup-short k xs (all-turn (λ z q. ≺-trans h q) a) ∙ sym (lookup-short k ys (all-turn (λ z q. ≺-trans (rw e at h) q) b)))
+    (λ h. lookup-short k xs (all-of (λ z q. ≺-trans h q) a) ∙ sym (lookup-short k ys (all-of (λ z q. ≺-trans (rw e at h) q) b)))
     (λ q. lookup-short k xs (rw q a) ∙ sym (lookup-short k ys (rw (q, e) b)))
     (λ h. sym (lookup-past k x xs h) ∙ (f k ∙ lookup-past k y ys (rw e at h)))
 

@@ -8,7 +8,7 @@ use Rattle.octets.proofs.Order.{compared}
 use Rattle.model.specs.Types.{Entry}
 use Rattle.model.specs.Map.{lookup}
 use Rattle.laws_order.specs.Line.{real, more-sorted, Rising}
-use Rattle.laws_order.proofs.Sundry.{all-map, all-member}
+use Rattle.model.proofs.Each.{all-of-map, all-member}
 use Rattle.laws_order.proofs.FiniteMap.{lookup-nil, lookup-before, lookup-at, lookup-past, same-entry}
 
 lookup-there : (k v : List ℕ) (m : List Entry) → lookup k m ≡ some v → List·Memᴰ (record { key = k; value = v }) m
@@ -21,7 +21,7 @@ lookup-there k v (x ∷ xs) e =
 
 there-lookup : (e : Entry) (m : List Entry) → Rising m → List·Memᴰ e m → lookup (e .key) m ≡ some (e .value)
 there-lookup e (x ∷ xs) r (List·Memᴰ·head q) = rw q (lookup-at (x .key) x xs refl)
-there-lookup e (x ∷ xs) (more-sorted a r) (List·Memᴰ·tail i) = lookup-past (e .key) x xs (all-member (all-map real xs a) i) ∙ there-lookup e xs r i
+there-lookup e (x ∷ xs) (more-sorted a r) (List·Memᴰ·tail i) = lookup-past (e .key) x xs (all-member (all-of-map _ real xs a) i) ∙ there-lookup e xs r i
 
 pub lookup-some-iff : (k v : List ℕ) (m : List Entry) → Rising m → (lookup k m ≡ some v) ↔ List·Memᴰ (record { key = k; value = v }) m
 lookup-some-iff k v m r = (lookup-there k v m, there-lookup (record { key = k; value = v }) m r)

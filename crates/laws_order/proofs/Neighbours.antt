@@ -9,7 +9,7 @@ use Rattle.octets.proofs.Order.{before→≺, ≺→before, not-before→, not-
 use Rattle.model.specs.Types.{Entry}
 use Rattle.model.specs.Accept.{rising}
 use Rattle.model.proofs.Tests.{not-true, and-true}
-use Rattle.laws_order.specs.Sundry.{all-none, all-more}
+use Rattle.model.proofs.Each.{nil, cons}
 use Rattle.laws_order.specs.Line.{Item, real, wall, of, Under, Sorted, none-sorted, more-sorted, stands, inLine, Rising}
 use Rattle.laws_order.proofs.Items.{sorted-join}
 
@@ -30,16 +30,16 @@ stands← (wall a) b u = ap not (not-before← b a u)
 inLine→ : (xs : List Item) → inLine xs ≡ true → Sorted xs
 unfolding inLine
 inLine→ [] t = none-sorted
-inLine→ (x ∷ []) t = more-sorted all-none none-sorted
+inLine→ (x ∷ []) t = more-sorted nil none-sorted
 inLine→ (x ∷ y ∷ zs) t =
     let k = simp and-eq-true-iff at t in
-    sorted-join [] x y zs (more-sorted all-none none-sorted) (stands→ x (of y) (k .0)) (inLine→ (y ∷ zs) (k .1))
+    sorted-join [] x y zs (more-sorted nil none-sorted) (stands→ x (of y) (k .0)) (inLine→ (y ∷ zs) (k .1))
 
 inLine← : (xs : List Item) → Sorted xs → inLine xs ≡ true
 unfolding inLine
 inLine← [] s = refl
 inLine← (x ∷ []) s = refl
-inLine← (x ∷ y ∷ zs) (more-sorted (all-more u a) s) = and-true (stands x (of y)) _ (stands← x (of y) u) (inLine← (y ∷ zs) s)
+inLine← (x ∷ y ∷ zs) (more-sorted (cons u a) s) = and-true (stands x (of y)) _ (stands← x (of y) u) (inLine← (y ∷ zs) s)
 
 pub inLine-iff : (xs : List Item) → (inLine xs ≡ true) ↔ Sorted xs
 inLine-iff xs = (inLine→ xs, inLine← xs)

@@ -8,12 +8,11 @@ use Rattle.model.specs.Lists.{gather, every, total}
 use Rattle.model.specs.Types.{Cell, Sep, Inner, Tree, Entry, entry, entries}
 use Rattle.model.specs.Sizes.{leafLeast, costs}
 use Rattle.model.specs.Accept.{everyChild, throughout, full}
-use Rattle.model.proofs.Lists.{every-append}
 use Rattle.model.proofs.Tests.{leb-iff}
-use Rattle.laws_order.specs.Sundry.{All, all-none, all-more}
+use Rattle.model.proofs.Each.{All, nil, cons, every→all, all-of}
+use Rattle.model.proofs.Lists.{every-append}
 use Rattle.laws_order.specs.Reading.{strung, rights}
 use Rattle.laws_order.specs.Line.{Item, real, wall, reals, fence, line}
-use Rattle.laws_order.proofs.Sundry.{every→all, all-turn}
 use Rattle.laws_order.proofs.Items.{reals-append}
 
 pub record Peopled (xs : List Item) : Type 0 where
@@ -47,8 +46,8 @@ entries-peopled e (d ∷ es) = longer e (map real (d ∷ es)) (entries-peopled d
 module _ {A : Type 0} (m : A → List Item) where
   children-peopled : (a : A) (ss : List (Sep A)) → Peopled (m a) → All (λ s. Peopled (m (s .child))) ss → Peopled (m a ++ rights fence m ss)
   unfolding rights gather
-  children-peopled a [] p all-none = rw append-nil p
-  children-peopled a (s ∷ ss) p (all-more q qs) =
+  children-peopled a [] p nil = rw append-nil p
+  children-peopled a (s ∷ ss) p (cons q qs) =
       let r = children-peopled (s .child) ss q qs in
       record {
         first = p .first;
@@ -76,4 +75,4 @@ unfolding full throughout everyChild line entries
 line-peopled zero t e = cells-peopled (t .cells) (leb-iff leafLeast (costs (t .cells)) .0 e)
 line-peopled (suc h) t e =
     let k = simp and-eq-true-iff at e in
-    strung-peopled (line h) t (line-peopled h (t .first) (k .1 .0)) (all-turn (λ s f. line-peopled h (s .child) f) (every→all _ (t .rest) (k .1 .1)))
+    strung-peopled (line h) t (line-peopled h (t .first) (k .1 .0)) (all-of (λ s f. line-peopled h (s .child) f) (every→all _ (t .rest) (k .1 .1)))

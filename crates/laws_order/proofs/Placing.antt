@@ -7,9 +7,9 @@ use Rattle.octets.specs.Keys.{compareKeys, three}
 use Rattle.octets.proofs.Order.{order-lt, order-gt, by-keys}
 use Rattle.model.specs.Types.{Entry}
 use Rattle.model.specs.Map.{insert, erase}
-use Rattle.laws_order.specs.Sundry.{all-none, all-more}
+use Rattle.model.proofs.Each.{nil, cons, all-append}
+use Rattle.laws_order.proofs.Sundry.{three-at}
 use Rattle.laws_order.specs.Line.{Item, real, Sorted, AllUnder, Beyond, reals}
-use Rattle.laws_order.proofs.Sundry.{all-append, three-at}
 use Rattle.laws_order.proofs.Items.{above-trans, above-tail, sorted-right, sorted-drop, sorted-insert, reals-append, reals-map, all-reals}
 
 -- a change of a list of entries that is made at a key
@@ -29,12 +29,12 @@ local-reals {op = op} c X es Y b a =
 insert-right : (e : Entry) (xs ys : List Entry) → AllUnder (e .key) (map real xs) → insert e (xs ++ ys) ≡ xs ++ insert e ys
 unfolding insert three
 insert-right e [] ys b = refl
-insert-right e (x ∷ xs) ys (all-more u b) = rw (order-gt u) (ap (λ (l : List Entry). x ∷ l) (insert-right e xs ys b))
+insert-right e (x ∷ xs) ys (cons u b) = rw (order-gt u) (ap (λ (l : List Entry). x ∷ l) (insert-right e xs ys b))
 
 insert-end : (e : Entry) (zs : List Entry) → Beyond (e .key) (map real zs) → insert e zs ≡ e ∷ zs
 unfolding insert three
 insert-end e [] a = refl
-insert-end e (z ∷ zs) (all-more u a) = rw (order-lt u)
+insert-end e (z ∷ zs) (cons u a) = rw (order-lt u)
 
 insert-left : (e : Entry) (ys zs : List Entry) → Beyond (e .key) (map real zs) → insert e (ys ++ zs) ≡ insert e ys ++ zs
 unfolding insert
@@ -48,9 +48,9 @@ insert-line e X [] Y b a s = sorted-insert e X Y b a s
 insert-line e X (x ∷ es) Y b a s =
     let next = above-tail (sorted-right X (real x ∷ (map real es ++ Y)) s) in
     by-keys (λ (l : List Entry). Sorted (X ++ (map real l ++ Y))) (e .key) (x .key) _ _ _
-    (λ h. sorted-insert e X (map real (x ∷ es) ++ Y) b (all-more h (above-trans (real e) (real x) h next)) s)
+    (λ h. sorted-insert e X (map real (x ∷ es) ++ Y) b (cons h (above-trans (real e) (real x) h next)) s)
     (λ q. sorted-insert e X (map real es ++ Y) b (rw q next) (sorted-drop (real x) X (map real es ++ Y) s))
-    (λ h. rw append-assoc at (insert-line e (X ++ (real x ∷ [])) es Y (all-append b (all-more h all-none)) a (rw append-assoc s)))
+    (λ h. rw append-assoc at (insert-line e (X ++ (real x ∷ [])) es Y (all-append b (cons h nil)) a (rw append-assoc s)))
 
 pub insert-local : (e : Entry) → Local (e .key) (insert e)
 insert-local e = record { right = insert-right e; left = insert-left e; keeps = insert-line e }
@@ -60,12 +60,12 @@ insert-local e = record { right = insert-right e; left = insert-left e; keeps = 
 erase-right : (k : List ℕ) (xs ys : List Entry) → AllUnder k (map real xs) → erase k (xs ++ ys) ≡ xs ++ erase k ys
 unfolding erase three
 erase-right k [] ys b = refl
-erase-right k (x ∷ xs) ys (all-more u b) = rw (order-gt u) (ap (λ (l : List Entry). x ∷ l) (erase-right k xs ys b))
+erase-right k (x ∷ xs) ys (cons u b) = rw (order-gt u) (ap (λ (l : List Entry). x ∷ l) (erase-right k xs ys b))
 
 erase-end : (k : List ℕ) (zs : List Entry) → Beyond k (map real zs) → erase k zs ≡ zs
 unfolding erase three
 erase-end k [] a = refl
-erase-end k (z ∷ zs) (all-more u a) = rw (order-lt u)
+erase-end k (z ∷ zs) (cons u a) = rw (order-lt u)
 
 erase-left : (k : List ℕ) (ys zs : List Entry) → Beyond k (map real zs) → erase k (ys ++ zs) ≡ erase k ys ++ zs
 unfolding erase

@@ -7,7 +7,7 @@ use Prim.Native.Nat.{ℕ}
 use Rattle.octets.proofs.Choice.{choose-true, either, either-by}
 use Rattle.model.specs.Types.{Entry}
 use Rattle.model.specs.Map.{inRange, range}
-use Rattle.laws_order.specs.Sundry.{All, all-none, all-more}
+use Rattle.model.proofs.Each.{All, nil, cons}
 use Rattle.laws_order.specs.Line.{Item, real, none-sorted, more-sorted, Rising}
 
 module _ (low high : List ℕ) where
@@ -31,9 +31,9 @@ module _ (low high : List ℕ) where
 
   all-range : {P : Item → Type 0} (m : List Entry) → All P (map real m) → All P (map real (range low high m))
   unfolding range
-  all-range [] a = all-none
-  all-range {P} (x ∷ xs) (all-more p a) =
-      either (λ (l : List Entry). All P (map real l)) (inRange low high (x .key)) _ _ (all-more p (all-range xs a)) (all-range xs a)
+  all-range [] a = nil
+  all-range {P} (x ∷ xs) (cons p a) =
+      either (λ (l : List Entry). All P (map real l)) (inRange low high (x .key)) _ _ (cons p (all-range xs a)) (all-range xs a)
 
   pub range-rising : (m : List Entry) → Rising m → Rising (range low high m)
   unfolding range

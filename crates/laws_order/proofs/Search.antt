@@ -9,9 +9,9 @@ use Rattle.model.specs.Types.{Cell, Entry}
 use Rattle.model.specs.Map.{lookup}
 use Rattle.model.specs.InLeaf.{found}
 use Rattle.model.specs.Calls.{Standing, standingOf}
-use Rattle.laws_order.specs.Sundry.{All, all-more}
-use Rattle.laws_order.specs.Finding.{pick, firstFound}
+use Rattle.model.proofs.Each.{All, cons}
 use Rattle.laws_order.proofs.Sundry.{three-at}
+use Rattle.laws_order.specs.Finding.{pick, firstFound}
 
 -- The search ------------------------------------------------------------------------------------------------------------
 
@@ -19,12 +19,12 @@ module _ {A : Type 0} (key : A → List ℕ) (k : List ℕ) where
   pick-right : (xs ys : List A) → All (λ x. key x ≺ k) xs → pick key k (xs ++ ys) ≡ pick key k ys
   unfolding pick three
   pick-right [] ys b = refl
-  pick-right (x ∷ xs) ys (all-more u b) = rw (order-gt u) (pick-right xs ys b)
+  pick-right (x ∷ xs) ys (cons u b) = rw (order-gt u) (pick-right xs ys b)
 
   pick-short : (zs : List A) → All (λ z. k ≺ key z) zs → pick key k zs ≡ none
   unfolding pick three
   pick-short [] a = refl
-  pick-short (z ∷ zs) (all-more u a) = rw (order-lt u)
+  pick-short (z ∷ zs) (cons u a) = rw (order-lt u)
 
   pick-left : (ys zs : List A) → All (λ z. k ≺ key z) zs → pick key k (ys ++ zs) ≡ pick key k ys
   unfolding pick

@@ -12,16 +12,16 @@ use Rattle.model.specs.Context.{Context}
 use Rattle.model.specs.InLeaf.{found}
 use Rattle.model.specs.Change.{spot}
 use Rattle.model.specs.Calls.{Standing, standing, standingOf}
-use Rattle.model.proofs.Lists.{gather-append}
-use Rattle.laws_order.specs.Sundry.{All}
+use Rattle.model.proofs.Each.{All, all-each, all-of-map}
+use Rattle.model.proofs.Lists.{gather-append, map-gather, gather-ext}
+use Rattle.model.proofs.Descent.{spot-plug}
 use Rattle.laws_order.specs.Reading.{silent, strung, before, after}
 use Rattle.laws_order.specs.Line.{Sorted, reals, only, fence, line, ofStore, ahead, behind}
 use Rattle.laws_order.specs.Finding.{pick, firstFound, standsIn, Present}
-use Rattle.laws_order.proofs.Sundry.{all-map, map-gather, gather-same}
 use Rattle.laws_order.proofs.Reading.{plug-reads, strung-of, before-of, after-of}
 use Rattle.laws_order.proofs.Line.{line-reals}
 use Rattle.laws_order.proofs.Search.{pick-around, pick-map, standing-pick, found-pick}
-use Rattle.laws_order.proofs.Descent.{spot-plug, spot-found}
+use Rattle.laws_order.proofs.Descent.{spot-found}
 use Rattle.laws_order.proofs.Finding.{keys-under, keys-beyond, missing-found}
 
 leaves-up : (h : ℕ) (t : Inner (Tree h)) → leaves (suc h) t ≡ strung silent (leaves h) t
@@ -39,7 +39,7 @@ module _ (E : Edition) where
 
   stands-entries : (ls : List Leaf) → map (λ x. entry (x .cell)) (gather stands ls) ≡ gather (entries 0) ls
   unfolding stands entries standsIn
-  stands-entries ls = map-gather _ stands ls ∙ gather-same _ (entries 0) (λ l. map-map (λ (x : Standing). entry (x .cell)) (standsIn E l) (l .cells)) ls
+  stands-entries ls = map-gather _ stands ls ∙ gather-ext _ (entries 0) (all-each (λ l. map-map (λ (x : Standing). entry (x .cell)) (standsIn E l) (l .cells)) ls)
 
   stands-ahead : {d : ℕ} (c : Context d 0) → map (λ x. entry (x .cell)) (gather stands (before silent leaves c)) ≡ reals (ahead c)
   unfolding reals gather
@@ -74,7 +74,7 @@ module _ (E : Edition) where
       let beyond-all : All (λ e. k ≺ e .key) (map (λ (x : Standing). entry (x .cell)) Y) = rw (stands-behind (w .around)) (keys-beyond k _ (f .beyond-key)) in
       standing-pick k (standing E s)
       ∙ (ap (pick key k) (standing-spot s k)
-      ∙ (pick-around key k X (stands (w .leaf)) Y (all-map (λ (x : Standing). entry (x .cell)) X under-all) (all-map (λ (x : Standing). entry (x .cell)) Y beyond-all)
+      ∙ (pick-around key k X (stands (w .leaf)) Y (all-of-map _ (λ (x : Standing). entry (x .cell)) X under-all) (all-of-map _ (λ (x : Standing). entry (x .cell)) Y beyond-all)
       ∙ (pick-map key (standsIn E (w .leaf)) k (w .leaf .cells) ∙ ap (Option·map (standsIn E (w .leaf))) (sym (found-pick k (w .leaf .cells))))))
 
   pub missing-standing : (s : Store) (k : List ℕ) → Sorted (ofStore s) → lookup k (toMap s) ≡ none → standingOf k (standing E s) ≡ none

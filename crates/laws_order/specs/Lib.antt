@@ -1,5 +1,4 @@
 -- What the laws of this crate speak of:
-pub mod Sundry
 pub mod Reading
 pub mod Line
 pub mod Finding

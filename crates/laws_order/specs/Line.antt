@@ -7,7 +7,7 @@ use Rattle.octets.proofs.Order.{_≺_}
 use Rattle.model.specs.Lists.{gather}
 use Rattle.model.specs.Types.{Cell, Tree, Store, Entry, entry, entries}
 use Rattle.model.specs.Context.{Context}
-use Rattle.laws_order.specs.Sundry.{All}
+use Rattle.model.proofs.Each.{All}
 use Rattle.laws_order.specs.Reading.{strung, before as readBefore, after as readAfter}
 
 pub data Item : Type 0 where

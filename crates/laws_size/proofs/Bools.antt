@@ -12,8 +12,9 @@ use Rattle.model.specs.Types.{Cell, Leaf, Sep, Inner, Tree, Store}
 use Rattle.model.specs.Sizes.{keyMost, leafLeast, leafMost, innerLeast, innerMost, valueMost, chainLength, cellLength, costs}
 use Rattle.model.specs.Accept.{everyChild, throughout, between, keyFits, cellFits, lengthsFit, inside, apart, allApart, cellsPlaced, leavesPlaced, full, fullBelow}
 use Rattle.model.specs.Refusals.{goodKey, goodValue}
+use borrow.Author.Tests.{lt-leb}
 use Rattle.model.proofs.Tests.{leb-iff, leb-not, eqb-iff, not-true, and-true, between-iff}
-use Rattle.laws_size.proofs.Sundry.{leb-false, All, none, more, all-weaken, every-iff, Pairwise, lone, joint}
+use Rattle.model.proofs.Each.{All, nil, cons, all-of, every-iff, Pairwise, lone, joint}
 use Rattle.laws_size.proofs.Full.{KeyFit, CellFit, Inside, Apart, before, after, Placed, LeafFull, SepFull, NodeFull, Full, FullUnder, FullStore}
 use Rattle.laws_size.proofs.Throughout.{Children, everyChild-and, everyChild-iff, throughout-and, throughout-iff}
 
@@ -34,7 +35,7 @@ goodKey-iff k = key-iff k
 pub goodValue-iff : (L v : ℕ) → (goodValue L v ≡ true) ↔ (v ≤ valueMost L)
 unfolding goodValue
 goodValue-iff L v =
-    (λ e. omega (arith, leb-not (suc (valueMost L)) v (not-true _ e)), λ h. rw (leb-false (suc (valueMost L)) v (omega arith)))
+    (λ e. omega (arith, leb-not (suc (valueMost L)) v (not-true _ e)), λ h. rw (lt-leb (suc (valueMost L)) v (omega arith)))
 
 cell-iff : (L : ℕ) (c : Cell) → (cellFits L c ≡ true) ↔ CellFit L c
 unfolding cellFits
@@ -112,8 +113,8 @@ leaf-iff L least l =
 
 seps-of : {A : Type 0} {P : A → Type 0} {ss : List (Sep A)} → All (λ (s : Sep A). KeyFit (s .key)) ss → All (λ (s : Sep A). P (s .child)) ss
     → All (SepFull P) ss
-seps-of none none = none
-seps-of (more k ks) (more p ps) = more (record { key = k; child = p }) (seps-of ks ps)
+seps-of nil nil = nil
+seps-of (cons k ks) (cons p ps) = cons (record { key = k; child = p }) (seps-of ks ps)
 
 node-iff : {A : Type 0} (P : A → Type 0) (least : ℕ) (t : Inner A)
     → ((((every (λ s. keyFits (s .key)) (t .rest) && true) && between least innerMost (length (t .rest))) ≡ true) × Children P t) ↔ NodeFull P least t
@@ -124,8 +125,8 @@ node-iff {A} P least t =
           let b = count .0 (q .1) in
           record { enough = b .0; most = b .1; head = e .1 .0; others = seps-of (keys .0 (q .0 .0)) (e .1 .1) },
       λ f. (
-        simp and-eq-true-iff ((keys .1 (all-weaken (λ s p. p .key) (f .others)), refl), count .1 (f .enough, f .most)),
-        (f .head, all-weaken (λ s p. p .child) (f .others)),
+        simp and-eq-true-iff ((keys .1 (all-of (λ s p. p .key) (f .others)), refl), count .1 (f .enough, f .most)),
+        (f .head, all-of (λ s p. p .child) (f .others)),
       ),
     )
 

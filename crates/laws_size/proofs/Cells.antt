@@ -13,9 +13,9 @@ use Rattle.model.specs.Lists.{total}
 use Rattle.model.specs.Types.{Cell, Leaf}
 use Rattle.model.specs.Sizes.{keyMost, inlineMost, cellLength, cost, costs}
 use Rattle.model.specs.InLeaf.{with, without, found, moved, packed, packedLeaf, roomFor}
-use Rattle.model.proofs.Lists.{total-nil, total-cons, total-append, length-total}
 use Rattle.model.proofs.Tests.{leb-iff}
-use Rattle.laws_size.proofs.Sundry.{All, none, more, all-weaken}
+use Rattle.model.proofs.Each.{All, nil, cons, all-of}
+use Rattle.model.proofs.Lists.{total-nil, total-cons, total-append, length-total}
 use Rattle.laws_size.proofs.Full.{KeyFit, CellFit}
 
 -- ---- each cell
@@ -24,18 +24,18 @@ use Rattle.laws_size.proofs.Full.{KeyFit, CellFit}
 module _ {P : Cell → Type 0} where
   pub all-without : (k : List ℕ) {cs : List Cell} → All P cs → All P (without k cs)
   unfolding without
-  all-without k none = none
-  all-without k (more p a) = by-order (All P) (compareKeys k _) _ _ _ (λ e. more p a) (λ e. a) (λ e. more p (all-without k a))
+  all-without k nil = nil
+  all-without k (cons p a) = by-order (All P) (compareKeys k _) _ _ _ (λ e. cons p a) (λ e. a) (λ e. cons p (all-without k a))
 
   pub all-with : (x : Cell) {cs : List Cell} → P x → All P cs → All P (with x cs)
   unfolding with
-  all-with x q none = more q none
-  all-with x q (more p a) = by-order (All P) (compareKeys (x .key) _) _ _ _ (λ e. more q (more p a)) (λ e. more q a) (λ e. more p (all-with x q a))
+  all-with x q nil = cons q nil
+  all-with x q (cons p a) = by-order (All P) (compareKeys (x .key) _) _ _ _ (λ e. cons q (cons p a)) (λ e. cons q a) (λ e. cons p (all-with x q a))
 
   pub all-packed : ((o : ℕ) (c : Cell) → P c → P (moved o c)) → (e : ℕ) {cs : List Cell} → All P cs → All P (packed e cs)
   unfolding packed
-  all-packed f e none = none
-  all-packed f e (more p a) = more (f _ _ p) (all-packed f _ a)
+  all-packed f e nil = nil
+  all-packed f e (cons p a) = cons (f _ _ p) (all-packed f _ a)
 
 pub fit-moved : {L : ℕ} (o : ℕ) (c : Cell) → CellFit L c → CellFit L (moved o c)
 unfolding moved
@@ -167,7 +167,7 @@ cost-most c k =
     (λ e. omega (arith, k .few, leb-iff (length (c .value)) 64 .0 e)) (λ e. omega (arith, k .few))
 
 pub costs-most : {L : ℕ} {cs : List Cell} → All (CellFit L) cs → All (λ c. cost c ≤ cellMost) cs
-costs-most a = all-weaken (λ c f. cost-most c (f .key)) a
+costs-most a = all-of (λ c f. cost-most c (f .key)) a
 
 pub some-cell : (cs : List Cell) → 1 ≤ costs cs → 1 ≤ length cs
 some-cell [] h = absurd (omega (arith, costs-nil))

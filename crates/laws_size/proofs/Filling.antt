@@ -14,7 +14,7 @@ use Rattle.model.specs.Context.{Left, Context, top, under, Opened, Spot, seek, 
 use Rattle.model.specs.InLeaf.{Grown, with, moved, packedLeaf, roomFor, added, removed}
 use Rattle.model.specs.Change.{spot, pool, newCell, hasRoom, placedIn, putDone, deleteDone}
 use Rattle.model.proofs.Tests.{leb-iff, leb-not}
-use Rattle.laws_size.proofs.Sundry.{All, none, more}
+use Rattle.model.proofs.Each.{All, nil, cons}
 use Rattle.laws_size.proofs.Full.{KeyFit, CellFit, LeafFull, SepFull, Full, FullUnder, FullStore, LeftFull, leastCost, leastRecords, Around, GrownFull, still, parts}
 use Rattle.laws_size.proofs.Cells.{all-with, all-without, all-packed, fit-moved, cellMost, cost-moved, cost-most, costs-with, costs-without, costs-room}
 use Rattle.laws_size.proofs.Places.{added-placed, removed-placed}
@@ -34,11 +34,11 @@ module _ {A : Type 0} (P : A → Type 0) where
   seek-opens : (k : List ℕ) (p n : ℕ) (ls : List (Left A)) (a : A) {ss : List (Sep A)} → All (LeftFull P) ls → P a → All (SepFull P) ss → length ls + length ss ≡ n
       → Opens n (seek k p ls a ss)
   unfolding seek
-  seek-opens k p n ls a l x none e = record { child = x; left = l; right = none; count = e }
-  seek-opens k p n ls a l x (more {x = s} {xs = ss} c r) e =
+  seek-opens k p n ls a l x nil e = record { child = x; left = l; right = nil; count = e }
+  seek-opens k p n ls a l x (cons {x = s} {xs = ss} c r) e =
       either (Opens n) _ _ _
-      (record { child = x; left = l; right = more c r; count = e })
-      (seek-opens k p n (record { child = a; key = s .key } ∷ ls) (s .child) (more (record { key = c .key; child = x }) l) (c .child) r (omega arith))
+      (record { child = x; left = l; right = cons c r; count = e })
+      (seek-opens k p n (record { child = a; key = s .key } ∷ ls) (s .child) (cons (record { key = c .key; child = x }) l) (c .child) r (omega arith))
 
 module _ (L : ℕ) where
   pub record Reached {d : ℕ} (w : Spot d) : Type 0 where
@@ -50,7 +50,7 @@ module _ (L : ℕ) where
   reached zero c t k a f = record { around = a; leaf = record { enough = omega arith; most = f .most; each = f .each; placed = f .placed } }
   reached (suc h) c t k a f =
       let q = seek k (t .page) [] (t .first) (t .rest) in
-      let o = seek-opens (FullUnder L h) k (t .page) (length (t .rest)) [] (t .first) none (f .head) (f .others) (zero-add _) in
+      let o = seek-opens (FullUnder L h) k (t .page) (length (t .rest)) [] (t .first) nil (f .head) (f .others) (zero-add _) in
       reached h (under (q .frame) c) (q .child) k
       (record { enough = omega (arith, o .count, f .enough); most = omega (arith, o .count, f .most); left = o .left; right = o .right }, a) (o .child)
 

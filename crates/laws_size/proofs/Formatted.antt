@@ -8,9 +8,10 @@ use Rattle.model.specs.Types.{Cell, met}
 use Rattle.model.specs.Sizes.{leafMost}
 use Rattle.model.specs.Accept.{onceEach}
 use Rattle.model.specs.Change.{formatted}
+use Rattle.model.proofs.Each.{nil, lone, all-from}
 use Rattle.model.proofs.Lists.{total-nil, total-cons, length-from}
-use Rattle.laws_size.proofs.Sundry.{none, lone, times-from, from-all}
-use Rattle.laws_size.proofs.Pages.{once-iff}
+use Rattle.model.proofs.Sums.{times-from}
+use Rattle.model.proofs.OnceEach.{once-iff}
 use Rattle.laws_size.proofs.Full.{FullStore}
 use Rattle.laws_size.proofs.Cells.{costs-nil}
 use Rattle.laws_size.proofs.Weights.{chains, weight, whole}
@@ -22,8 +23,8 @@ formatted-full L n long =
     record {
       enough = omega arith;
       most = omega (arith, costs-nil);
-      each = none;
-      placed = record { low = omega arith; high = omega arith; inside = none; apart = lone };
+      each = nil;
+      placed = record { low = omega arith; high = omega arith; inside = nil; apart = lone };
     }
 
 -- 1 to n − 1 in a row
@@ -31,9 +32,9 @@ row-once : (n : ℕ) → onceEach n (from 1 (n - 1)) ≡ true
 row-once n =
     once-iff n (from 1 (n - 1)) .1
     (record {
-      count = length-from 1 (n - 1);
+      size = length-from 1 (n - 1);
       each = λ p g h. times-from p 1 (n - 1) g (omega arith);
-      others = from-all 1 (n - 1) (λ p g h. (g, omega arith));
+      within = all-from 1 (n - 1) (λ p g h. (g, omega arith));
     })
 
 formatted-row : (L n : ℕ) → 2 ≤ n → (w : ℕ → ℕ) → total w (met (formatted L n)) ≡ total w (from 1 (n - 1))

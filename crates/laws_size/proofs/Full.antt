@@ -7,7 +7,7 @@ use Rattle.model.specs.Types.{Cell, Leaf, Sep, Inner, Tree, Store}
 use Rattle.model.specs.Sizes.{keyMost, leafLeast, innerLeast, innerMost, leafMost, valueMost, chainLength, cellLength, costs}
 use Rattle.model.specs.Context.{Left, Frame, Context, top, under}
 use Rattle.model.specs.InLeaf.{Grown, one, two}
-use Rattle.laws_size.proofs.Sundry.{All, Pairwise}
+use Rattle.model.proofs.Each.{All, Pairwise}
 
 -- ---- lengths
 -- Of a key and of a cell.

@@ -14,7 +14,7 @@ use Rattle.model.specs.Context.{Left, Frame, Context, top, under, close}
 use Rattle.model.specs.InLeaf.{Grown, one, two}
 use Rattle.model.specs.Growing.{Step, splitRight, grown, growStep, newRoot, growUp, growth}
 use Rattle.model.proofs.Tests.{leb-iff, leb-not}
-use Rattle.laws_size.proofs.Sundry.{drop-tail}
+use Rattle.model.proofs.Lists.{drop-tail}
 
 pub close-count : {A : Type 0} (p : ℕ) (ls : List (Left A)) (a : A) (rs : List (Sep A)) → length (close p ls a rs .rest) ≡ length ls + length rs
 unfolding close

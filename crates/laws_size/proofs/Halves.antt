@@ -9,7 +9,7 @@ use Rattle.model.specs.Types.{Cell}
 use Rattle.model.specs.Sizes.{keyMost, inlineMost, leafLeast, leafMost, cost, costs}
 use Rattle.model.specs.InLeaf.{kept, half}
 use Rattle.model.proofs.Tests.{leb-iff, leb-not}
-use Rattle.laws_size.proofs.Sundry.{All, none, more}
+use Rattle.model.proofs.Each.{All, nil, cons}
 use Rattle.laws_size.proofs.Cells.{costs-nil, costs-cons, costs-append, cellMost}
 
 -- ---- over any total
@@ -26,8 +26,8 @@ kept-enough T s (c ∷ cs) h =
 
 kept-tight : (T m s : ℕ) {cs : List Cell} → All (λ c. cost c ≤ m) cs → 2 * s < T + 2 * m → 2 * (s + costs (take (kept T s cs) cs)) < T + 2 * m
 unfolding kept
-kept-tight T m s none h = omega (arith, costs-nil)
-kept-tight T m s (more {x = c} {xs = cs} u a) h =
+kept-tight T m s nil h = omega (arith, costs-nil)
+kept-tight T m s (cons {x = c} {xs = cs} u a) h =
     let rest = take (kept T (s + cost c) cs) cs in
     either-by (λ (i : ℕ). 2 * (s + costs (take i (c ∷ cs))) < T + 2 * m) _ _ _
     (λ e. omega (arith, costs-nil))

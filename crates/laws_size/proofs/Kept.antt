@@ -13,13 +13,13 @@ use Rattle.model.specs.Context.{Frame, Context, top, under, Spot, fill, plug}
 use Rattle.model.specs.InLeaf.{with, without, found, half, moved, packedLeaf, roomFor, added, removed, parted, shared}
 use Rattle.model.specs.Growing.{growth}
 use Rattle.model.specs.Change.{spot, oldChain, freed, pool, newCell, placedIn, putDone, deleteDone}
-use Rattle.model.proofs.Lists.{total-append}
 use Rattle.model.proofs.Tests.{leb-not}
-use Rattle.laws_size.proofs.Sundry.{length-tail, total-front, total-gather, total-reverse}
+use Rattle.model.proofs.Lists.{total-append, length-tail}
+use Rattle.model.proofs.Sums.{total-front, total-gather, total-reverse}
+use Rattle.model.proofs.Descent.{descend-plug}
 use Rattle.laws_size.proofs.Cells.{total-with, total-found, total-absent, total-room, found-room}
 use Rattle.laws_size.proofs.Growth.{asks}
 use Rattle.laws_size.proofs.Upward.{leaf-is, chain-moved, growUp-weight, shared-weight, settled-weight}
-use Rattle.laws_size.proofs.Down.{descend-plug}
 use Rattle.laws_size.proofs.Weights.{frame, frees, chains, weight, around, whole, fill-weight}
 
 -- ---- the leaf

@@ -13,8 +13,8 @@ use Rattle.model.specs.Types.{Sep, Inner, Tree, Store, across, leaves, met}
 use Rattle.model.specs.Sizes.{innerLeast}
 use Rattle.model.specs.Accept.{onceEach}
 use Rattle.model.proofs.Tests.{leb-iff, leb-not}
+use Rattle.model.proofs.Each.{All, nil, cons}
 use Rattle.model.proofs.Editions.{Lawful}
-use Rattle.laws_size.proofs.Sundry.{All, none, more}
 use Rattle.laws_size.proofs.Full.{SepFull, NodeFull, Full, FullUnder, FullStore}
 use Rattle.laws_size.proofs.Weights.{bySep, node, weight, whole}
 use Rattle.laws_size.proofs.Once.{once-length}
@@ -26,8 +26,8 @@ use Rattle.laws_size.proofs.Once.{once-length}
 rest-least : {A B : Type 0} (f : A → List B) (P : A → Type 0) (m : ℕ) → ((a : A) → P a → m ≤ length (f a)) → {ss : List (Sep A)} → All (SepFull P) ss
     → length ss * m ≤ length (gather (λ s. f (s .child)) ss)
 unfolding gather
-rest-least f P m each none = omega (arith, zero-mul m)
-rest-least f P m each (more {x = s} {xs = ss} p a) = rw (suc-mul, length-append) (omega (arith, each (s .child) (p .child), rest-least f P m each a))
+rest-least f P m each nil = omega (arith, zero-mul m)
+rest-least f P m each (cons {x = s} {xs = ss} p a) = rw (suc-mul, length-append) (omega (arith, each (s .child) (p .child), rest-least f P m each a))
 
 across-least : {A B : Type 0} (f : A → List B) (P : A → Type 0) (m least : ℕ) → ((a : A) → P a → m ≤ length (f a)) → {t : Inner A} → NodeFull P least t
     → m + least * m ≤ length (across f t)
@@ -84,7 +84,7 @@ low L (suc d) m t f h = go (leb (suc d) m) refl
     go : (b : Bool) → leb (suc d) m ≡ b → suc d ≤ m
     go true e = leb-iff (suc d) m .0 e
     go false e =
-        let more : 8 ^ m ≤ 8 ^ d = pow-le-pow-right {n = 8} (omega arith) (omega (arith, leb-not (suc d) m e)) in
+        let many : 8 ^ m ≤ 8 ^ d = pow-le-pow-right {n = 8} (omega arith) (omega (arith, leb-not (suc d) m e)) in
         omega (arith, leaves-root L d t f, root-pages d t)
 
 -- the one fact: pages enough for m levels below the root and no more

@@ -1,6 +1,4 @@
 -- The laws of this crate, in reading order:
-pub mod Sundry
-pub mod Pages
 pub mod Full
 pub mod Cells
 pub mod Halves
@@ -12,7 +10,6 @@ pub mod Filling
 pub mod Growth
 pub mod Weights
 pub mod Upward
-pub mod Down
 pub mod Kept
 pub mod Once
 pub mod Mended

@@ -14,7 +14,7 @@ use Rattle.model.specs.InLeaf.{Grown}
 use Rattle.model.specs.Growing.{Step, splitRight, grown, growStep}
 use Rattle.model.specs.Mending.{joined, partnered, together, firstOf, lastOf, rotated, joinInner, mendInner}
 use Rattle.model.proofs.Tests.{leb-iff, leb-not}
-use Rattle.laws_size.proofs.Sundry.{All, none, more, all-head, all-tail, all-append, all-left, all-right}
+use Rattle.model.proofs.Each.{All, nil, cons, all-cons, all-append, all-parts}
 use Rattle.laws_size.proofs.Full.{KeyFit, SepFull, NodeFull, LeftFull, FrameFull, GrownFull, still, parts}
 
 -- ---- children
@@ -29,9 +29,9 @@ module _ {A : Type 0} (P : A → Type 0) where
   pub close-kids : (p : ℕ) {ls : List (Left A)} {a : A} {rs : List (Sep A)} → All (LeftFull P) ls → P a → All (SepFull P) rs
       → Kids (length ls + length rs) (close p ls a rs)
   unfolding close
-  close-kids p none a rs = record { count = sym (zero-add _); head = a; others = rs }
-  close-kids p (more l ls) a rs =
-      let r = close-kids p ls (l .child) (more (record { key = l .key; child = a }) rs) in
+  close-kids p nil a rs = record { count = sym (zero-add _); head = a; others = rs }
+  close-kids p (cons l ls) a rs =
+      let r = close-kids p ls (l .child) (cons (record { key = l .key; child = a }) rs) in
       record { count = omega (arith, r .count); head = r .head; others = r .others }
 
   pub kids-full : {least n : ℕ} {t : Inner A} → Kids n t → least ≤ n → n ≤ innerMost → NodeFull P least t
@@ -60,9 +60,10 @@ module _ {A : Type 0} (P : A → Type 0) where
       let c = k .count in
       let l = ap length e in
       let all : All (SepFull P) (left ++ (s ∷ ss)) = rw e (k .others) in
-      let right = all-right left (s ∷ ss) all in
-      parts (made (t .page) (t .first) left (k .head) (all-left left (s ∷ ss) all) (omega arith) (omega arith)) (all-head right .key)
-      (made q (s .child) ss (all-head right .child) (all-tail right) (omega arith) (omega arith))
+      let both = all-parts left all in
+      let right = all-cons (both .1) in
+      parts (made (t .page) (t .first) left (k .head) (both .0) (omega arith) (omega arith)) (right .0 .key)
+      (made q (s .child) ss (right .0 .child) (right .1) (omega arith) (omega arith))
 
   pub grow-full : {least : ℕ} {f : Frame A} {g : Grown A} (free : List ℕ) → FrameFull P least f → GrownFull P P g
       → GrownFull (NodeFull P least) (NodeFull P innerLeast) (growStep f g free .node)
@@ -70,7 +71,7 @@ module _ {A : Type 0} (P : A → Type 0) where
   grow-full {f = f} free o (still a) = still (kids-full (close-kids (f .page) (o .left) a (o .right)) (o .enough) (o .most))
   grow-full {least} {f} free o (parts {a = x} {k = w} {b = y} a k b) =
       let n = close (f .page) (f .lefts) x (record { key = w; child = y } ∷ f .rights) in
-      let t = close-kids (f .page) (o .left) a (more (record { key = k; child = b }) (o .right)) in
+      let t = close-kids (f .page) (o .left) a (cons (record { key = k; child = b }) (o .right)) in
       let c = t .count in
       let most = o .most in
       either-by (λ (x : Step (Grown (Inner A))). GrownFull (NodeFull P least) (NodeFull P innerLeast) (x .node)) _ _ _
@@ -86,7 +87,7 @@ module _ {A : Type 0} (P : A → Type 0) where
       → least ≤ suc (length ls + length rs) → suc (length ls + length rs) ≤ innerMost → NodeFull P (least - 1) (joined p ls rs free q g .node)
   unfolding joined
   joined-full p free q l r (still a) h g = kids-full (close-kids p l a r) (omega arith) (omega arith)
-  joined-full p free q l r (parts a k b) h g = kids-full (close-kids p l a (more (record { key = k; child = b }) r)) (omega arith) (omega arith)
+  joined-full p free q l r (parts a k b) h g = kids-full (close-kids p l a (cons (record { key = k; child = b }) r)) (omega arith) (omega arith)
 
   -- S is what a short one has
   pub partnered-full : (S : A → Type 0) (pageIs : A → ℕ) (join : A → List ℕ → A → Grown A)
@@ -99,9 +100,9 @@ module _ {A : Type 0} (P : A → Type 0) where
     where
       go : {ls : List (Left A)} {rs : List (Sep A)} → All (LeftFull P) ls → All (SepFull P) rs → least ≤ length ls + length rs → length ls + length rs ≤ innerMost
           → NodeFull P (least - 1) (partnered pageIs join (f .page) ls a rs free .node)
-      go l (more x r) g m = joined-full _ free _ l r (right _ _ _ s (x .key) (x .child)) (omega arith) (omega arith)
-      go (more x l) none g m = joined-full _ free _ l none (left _ _ _ (x .child) (x .key) s) (omega arith) (omega arith)
-      go none none g m = absurd (omega arith)
+      go l (cons x r) g m = joined-full _ free _ l r (right _ _ _ s (x .key) (x .child)) (omega arith) (omega arith)
+      go (cons x l) nil g m = joined-full _ free _ l nil (left _ _ _ (x .child) (x .key) s) (omega arith) (omega arith)
+      go nil nil g m = absurd (omega arith)
 
 -- ---- two inner nodes, one of them short
 -- They fit in one node, or the longer has a record to spare.
@@ -112,7 +113,7 @@ module _ {A : Type 0} (P : A → Type 0) where
   unfolding together innerLeast
   together-full {a} {k} {b} s kk t fits =
       let n = length-append (a .rest) (record { key = k; child = b .first } ∷ b .rest) in
-      made P (a .page) (a .first) _ (s .head) (all-append (s .others) (more (record { key = kk; child = t .head }) (t .others)))
+      made P (a .page) (a .first) _ (s .head) (all-append (s .others) (cons (record { key = kk; child = t .head }) (t .others)))
       (omega (arith, s .enough, t .enough)) (omega arith)
 
   -- the giver's records are ss, and for its last front and ss
@@ -120,11 +121,11 @@ module _ {A : Type 0} (P : A → Type 0) where
       → length (a .rest) < length ss → innerLeast < length ss → length ss ≤ innerMost
       → GrownFull (NodeFull P innerLeast) (NodeFull P innerLeast) (firstOf a k b ss)
   unfolding firstOf innerLeast
-  first-full b s kk h none f g m = absurd (omega arith)
-  first-full {a} {k} b s kk h (more {x = x} {xs = ss} j r) f g m =
+  first-full b s kk h nil f g m = absurd (omega arith)
+  first-full {a} {k} b s kk h (cons {x = x} {xs = ss} j r) f g m =
       let came : List (Sep A) = record { key = k; child = b .first } ∷ [] in
       let n = length-append (a .rest) came in
-      parts (made P (a .page) (a .first) (a .rest ++ came) (s .head) (all-append (s .others) (more (record { key = kk; child = h }) none)) (omega (arith, s .enough)) (omega arith))
+      parts (made P (a .page) (a .first) (a .rest ++ came) (s .head) (all-append (s .others) (cons (record { key = kk; child = h }) nil)) (omega (arith, s .enough)) (omega arith))
       (j .key) (made P (b .page) (x .child) ss (j .child) r (omega arith) (omega arith))
 
   last-full : (a : Inner A) {k : List ℕ} {b : Inner A} {front ss : List (Sep A)} → NodeFull P (innerLeast - 1) b → KeyFit k → P (a .first)
@@ -132,14 +133,14 @@ module _ {A : Type 0} (P : A → Type 0) where
       → length (b .rest) < innerMost → innerLeast < length front + length ss → length front + length ss ≤ innerMost
       → GrownFull (NodeFull P innerLeast) (NodeFull P innerLeast) (lastOf a k b front ss)
   unfolding lastOf innerLeast
-  last-full a s kk h fr none l f g m = absurd (omega arith)
-  last-full a {k} {b} {front} s kk h fr (more {x = x} j none) l f g m =
+  last-full a s kk h fr nil l f g m = absurd (omega arith)
+  last-full a {k} {b} {front} s kk h fr (cons {x = x} j nil) l f g m =
       let came : List (Sep A) = record { key = k; child = b .first } ∷ b .rest in
       parts (made P (a .page) (a .first) front h fr (omega arith) (omega arith)) (j .key)
-      (made P (b .page) (x .child) came (j .child) (more (record { key = kk; child = s .head }) (s .others)) (omega (arith, s .enough)) (omega arith))
-  last-full a {front = front} s kk h fr (more {x = x} j (more i r)) l f g m =
+      (made P (b .page) (x .child) came (j .child) (cons (record { key = kk; child = s .head }) (s .others)) (omega (arith, s .enough)) (omega arith))
+  last-full a {front = front} s kk h fr (cons {x = x} j (cons i r)) l f g m =
       let n = length-append front (x ∷ []) in
-      last-full a s kk h (all-append fr (more j none)) (more i r) (omega arith) f (omega arith) (omega arith)
+      last-full a s kk h (all-append fr (cons j nil)) (cons i r) (omega arith) f (omega arith) (omega arith)
 
   rotated-full : {a : Inner A} {k : List ℕ} {b : Inner A} → NodeFull P (innerLeast - 1) a → KeyFit k → NodeFull P (innerLeast - 1) b
       → (length (a .rest) ≡ length (b .rest) → ⊥) → innerMost ≤ length (a .rest) + length (b .rest)
@@ -150,8 +151,8 @@ module _ {A : Type 0} (P : A → Type 0) where
       let other = t .most in
       either-by (GrownFull (NodeFull P innerLeast) (NodeFull P innerLeast)) _ _ _
       (λ e. let less = leb-iff (suc (length (a .rest))) (length (b .rest)) .0 e in first-full b s kk (t .head) (t .others) less (omega arith) other)
-      (λ e. let more = leb-not (suc (length (a .rest))) (length (b .rest)) e in
-      last-full a t kk (s .head) none (s .others) (omega arith) (omega arith) (omega arith) (omega arith))
+      (λ e. let greater = leb-not (suc (length (a .rest))) (length (b .rest)) e in
+      last-full a t kk (s .head) nil (s .others) (omega arith) (omega arith) (omega arith) (omega arith))
 
   -- one of the two may be short, and then the other is not
   pub join-full : {a : Inner A} {k : List ℕ} {b : Inner A} → NodeFull P (innerLeast - 1) a → KeyFit k → NodeFull P (innerLeast - 1) b

@@ -14,8 +14,9 @@ use Rattle.model.specs.Accept.{onceEach}
 use Rattle.model.specs.InLeaf.{with, without, found, half}
 use Rattle.model.specs.Change.{spot, pool, newCell, hasRoom, putDone, deleteDone}
 use Rattle.model.proofs.Lists.{total-cons, total-append, total-map, length-total, times-total, every-same}
-use Rattle.laws_size.proofs.Sundry.{total-same, total-gather}
-use Rattle.laws_size.proofs.Pages.{once-iff}
+use Rattle.model.proofs.Each.{all-each}
+use Rattle.model.proofs.Sums.{total-ext, total-gather}
+use Rattle.model.proofs.OnceEach.{once-iff}
 use Rattle.laws_size.proofs.Full.{KeyFit, FullStore}
 use Rattle.laws_size.proofs.Cells.{all-with, costs-most, some-cell}
 use Rattle.laws_size.proofs.Halves.{halves}
@@ -34,7 +35,7 @@ module _ (w : ℕ → ℕ) where
 
   node-same : {A : Type 0} (f g : A → ℕ) → ((x : A) → f x ≡ g x) → (t : Inner A) → node w f t ≡ node w g t
   unfolding node
-  node-same f g e t = omega (arith, e (t .first), total-same (bySep f) (bySep g) (λ s. e (s .child)) (t .rest))
+  node-same f g e t = omega (arith, e (t .first), total-ext (bySep f) (bySep g) (all-each (λ s. e (s .child)) (t .rest)))
 
   across-weight : {A : Type 0} (m : A → List Mark) (t : Inner A) → total byMark (marked 2 (t .page) ∷ across m t) ≡ node w (λ a. total byMark (m a)) t
   unfolding across node marked
@@ -76,7 +77,7 @@ whole-count s = omega (arith, length-total (s .free))
 
 -- each page but the header is met
 pub once-length : (n : ℕ) (s : Store) → onceEach n (met s) ≡ true → whole (λ p. 1) s ≡ n - 1
-once-length n s e = omega (arith, once-iff n (met s) .0 e .count, length-total (met s), met-weight (λ p. 1) s)
+once-length n s e = omega (arith, once-iff n (met s) .0 e .size, length-total (met s), met-weight (λ p. 1) s)
 
 -- ---- put and delete
 -- Both keep every weight; a put that splits needs the pages for it and something for the right page.

@@ -10,9 +10,9 @@ use Rattle.model.specs.Lists.{total}
 use Rattle.model.specs.Types.{Cell, Leaf}
 use Rattle.model.specs.Sizes.{leafMost, cellLength, cost, costs}
 use Rattle.model.specs.InLeaf.{with, without, moved, packed, packedLeaf, roomFor, added, removed}
-use Rattle.model.proofs.Lists.{total-cons}
 use Rattle.model.proofs.Tests.{leb-not}
-use Rattle.laws_size.proofs.Sundry.{All, none, more, all-weaken, Pairwise, lone, joint}
+use Rattle.model.proofs.Each.{All, nil, cons, all-of, Pairwise, lone, joint}
+use Rattle.model.proofs.Lists.{total-cons}
 use Rattle.laws_size.proofs.Full.{Inside, Apart, before, after, Placed}
 use Rattle.laws_size.proofs.Cells.{all-without, all-with, length-with, length-without, length-packed, length-moved, costs-are}
 
@@ -23,14 +23,14 @@ swapped (before h) = after h
 swapped (after h) = before h
 
 wider : {a b e f : ℕ} {cs : List Cell} → b ≤ a → e ≤ f → All (Inside a e) cs → All (Inside b f) cs
-wider h g all = all-weaken (λ c i. record { low = omega (arith, i .low); high = omega (arith, i .high) }) all
+wider h g all = all-of (λ c i. record { low = omega (arith, i .low); high = omega (arith, i .high) }) all
 
 -- what stands from a place on is apart from what ends there, and what ends at a place from what stands there
 apart-above : {a e : ℕ} {c : Cell} {cs : List Cell} → c .at + cellLength c ≤ a → All (Inside a e) cs → All (Apart c) cs
-apart-above h all = all-weaken (λ d i. before (omega (arith, i .low))) all
+apart-above h all = all-of (λ d i. before (omega (arith, i .low))) all
 
 apart-below : {a e : ℕ} {c : Cell} {cs : List Cell} → e ≤ c .at → All (Inside a e) cs → All (Apart c) cs
-apart-below h all = all-weaken (λ d i. after (omega (arith, i .high))) all
+apart-below h all = all-of (λ d i. after (omega (arith, i .high))) all
 
 -- ---- packed
 
@@ -40,11 +40,11 @@ at-moved o c = refl
 
 packed-inside : (e : ℕ) (cs : List Cell) → total cellLength cs ≤ e → All (Inside (e - total cellLength cs) e) (packed e cs)
 unfolding packed
-packed-inside e [] h = none
+packed-inside e [] h = nil
 packed-inside e (c ∷ cs) h =
     let n = total-cons cellLength c cs in
     let o = e - cellLength c in
-    more {x = moved o c} (record { low = omega (arith, at-moved o c); high = omega (arith, at-moved o c, length-moved o c) })
+    cons {x = moved o c} (record { low = omega (arith, at-moved o c); high = omega (arith, at-moved o c, length-moved o c) })
     (wider (omega arith) (omega arith) (packed-inside o cs (omega arith)))
 
 packed-apart : (e : ℕ) (cs : List Cell) → total cellLength cs ≤ e → Pairwise Apart (packed e cs)
@@ -78,10 +78,10 @@ removed-placed L k l f =
 
 with-apart : (x : Cell) {cs : List Cell} → All (Apart x) cs → Pairwise Apart cs → Pairwise Apart (with x cs)
 unfolding with
-with-apart x none lone = joint none lone
-with-apart x (more p o) (joint a w) =
+with-apart x nil lone = joint nil lone
+with-apart x (cons p o) (joint a w) =
     by-order (Pairwise Apart) (compareKeys (x .key) _) _ _ _
-    (λ e. joint (more p o) (joint a w)) (λ e. joint o w) (λ e. joint (all-with x (swapped p) a) (with-apart x o w))
+    (λ e. joint (cons p o) (joint a w)) (λ e. joint o w) (λ e. joint (all-with x (swapped p) a) (with-apart x o w))
 
 record Roomy (L n : ℕ) (m : Leaf) : Type 0 where
   placed : Placed L m

@@ -15,8 +15,9 @@ use Rattle.model.specs.Sizes.{leafMost, valueMost, chainLength, costs}
 use Rattle.model.specs.InLeaf.{with, half, added, removed, shared}
 use Rattle.model.specs.Growing.{growth}
 use Rattle.model.specs.Change.{spot, oldChain, pool, newCell, splits, taken, hasRoom, placedIn, putDone, deleteDone}
+use borrow.Author.Tests.{lt-leb}
 use Rattle.model.proofs.Tests.{leb-iff}
-use Rattle.laws_size.proofs.Sundry.{leb-false, drop-tail}
+use Rattle.model.proofs.Lists.{drop-tail}
 use Rattle.laws_size.proofs.Full.{KeyFit, FullStore}
 use Rattle.laws_size.proofs.Taken.{length-pool, splits-iff, splits-not, taken-split, taken-whole, room-pool}
 use Rattle.laws_size.proofs.Growth.{asks, growUp-free}
@@ -42,7 +43,7 @@ module _ (L : ℕ) (s : Store) (k v : List ℕ) where
       let m = growth (w .around) in
       let free = drop n (pool s k) in
       let g = shared L (w .leaf .page) (headOr 0 free) cs in
-      let split = choose-false (leb (costs cs) (leafMost L)) _ _ (leb-false (costs cs) (leafMost L) (splits-iff L s k v .0 e)) in
+      let split = choose-false (leb (costs cs) (leafMost L)) _ _ (lt-leb (costs cs) (leafMost L) (splits-iff L s k v .0 e)) in
       let above = growUp-free (s .n) (w .around) g (tail free) in
       let asked : asks (w .around) g ≡ m = shared-asks (w .around) L (w .leaf .page) (headOr 0 free) cs right in
       ap (λ (r : Store). r .free) split ∙ (above ∙ rw (asked, taken-split L s k v e) (drop-tail m free ∙ drop-drop (suc m) n (pool s k)))

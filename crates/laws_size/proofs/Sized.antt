@@ -3,30 +3,25 @@ use mathlib.Core.Path.{_≡_, ap, _∙_}
 use mathlib.Core.Logic.{_↔_}
 use mathlib.Core.Bool.{true, _&&_, and-eq-true-iff}
 use mathlib.Core.List.{List, []}
-use mathlib.Core.Option.{Option, none, some}
 use Prim.Native.Nat.{ℕ, suc, _≤_}
 use native.Mathlib.Omega.{arith}
 use lib.ListN.{length}
-use Rattle.octets.proofs.Choice.{either-by}
 use Rattle.model.specs.Edition.{Edition}
-use Rattle.model.specs.Types.{Store, toMap, met}
+use Rattle.model.specs.Types.{Store, met}
 use Rattle.model.specs.Sizes.{valueMost}
 use Rattle.model.specs.Accept.{allRising, allBounded, onceEach, valid}
 use Rattle.model.specs.InLeaf.{without, found}
 use Rattle.model.specs.Change.{formatted, spot, hasRoom, putDone, deleteDone}
-use Rattle.model.specs.Map.{lookup}
-use Rattle.model.specs.Refusals.{goodKey, goodValue}
-use Rattle.model.specs.Calls.{Answer, putIn, deleteFound, deleteIn}
 use Rattle.model.proofs.Tests.{leb-iff, between-iff}
+use Rattle.model.proofs.OnceEach.{Once, once-iff}
 use Rattle.model.proofs.Editions.{Lawful}
-use Rattle.laws_size.proofs.Pages.{Once, once-iff}
 use Rattle.laws_size.proofs.Full.{KeyFit, FullStore}
 use Rattle.laws_size.proofs.Filling.{putDone-full, deleteDone-full}
 use Rattle.laws_size.proofs.Once.{putDone-once, deleteDone-once}
 use Rattle.laws_size.proofs.Count.{put-n, delete-n}
 use Rattle.laws_size.proofs.Levels.{levels-kept}
 use Rattle.laws_size.proofs.Formatted.{formatted-full, formatted-once}
-use Rattle.laws_size.proofs.Bools.{goodKey-iff, goodValue-iff, full-iff}
+use Rattle.laws_size.proofs.Bools.{full-iff}
 
 pub record Sized (E : Edition) (s : Store) : Type 0 where
   -- "n from 2 to 1,024"
@@ -72,24 +67,6 @@ module _ (E : Edition) (lawful : Lawful E) where
   delete-sized s k g =
       let L = E .usable in
       kept E s (deleteDone L s k) (delete-n L s k) (deleteDone-full L (lawful .room) s k (g .full)) (deleteDone-once L s k) g
-
-  -- ---- the calls
-  -- What put and delete make of a store, whether they refuse or not.
-
-  pub putIn-sized : (s : Store) (k v : List ℕ) → goodKey (length k) ≡ true → goodValue (E .usable) (length v) ≡ true
-      → found k (without k (spot s k .leaf .cells)) ≡ [] → Sized E s → Sized E (putIn E s k v .store)
-  unfolding putIn
-  putIn-sized s k v key value absent g =
-      either-by (λ (a : Answer). Sized E (a .store)) (hasRoom (E .usable) s k v) _ _
-      (λ e. put-sized s k v (goodKey-iff k .0 key) (goodValue-iff (E .usable) (length v) .0 value) e absent g) (λ e. g)
-
-  pub deleteIn-sized : (s : Store) (k : List ℕ) → Sized E s → Sized E (deleteIn E s k .store)
-  unfolding deleteIn
-  deleteIn-sized s k g = go (lookup k (toMap s))
-    where
-      go : (o : Option (List ℕ)) → Sized E (deleteFound E s k o .store)
-      go none = unfold deleteFound in g
-      go (some v) = unfold deleteFound in delete-sized s k g
 
   -- ---- the test
   -- What it says besides is the order of keys.

@@ -12,8 +12,8 @@ use Rattle.model.specs.Sizes.{leafMost, chainLength, costs}
 use Rattle.model.specs.InLeaf.{with}
 use Rattle.model.specs.Growing.{growth}
 use Rattle.model.specs.Change.{spot, oldChain, freed, pool, newCell, splits, taken, hasRoom}
+use borrow.Author.Tests.{lt-leb}
 use Rattle.model.proofs.Tests.{leb-iff, leb-not}
-use Rattle.laws_size.proofs.Sundry.{leb-false}
 
 -- the free pages and the old chain
 pub length-pool : (s : Store) (k : List ℕ) → length (pool s k) ≡ length (s .free) + length (oldChain s k)
@@ -57,7 +57,7 @@ module _ (L : ℕ) (s : Store) (k v : List ℕ) where
   pub no-room-iff : (hasRoom L s k v ≡ false) ↔ (length (s .free) + length (oldChain s k) < taken L s k v)
   unfolding hasRoom
   no-room-iff =
-      (leb-not (taken L s k v) (length (s .free) + length (oldChain s k)), leb-false (taken L s k v) (length (s .free) + length (oldChain s k)))
+      (leb-not (taken L s k v) (length (s .free) + length (oldChain s k)), lt-leb (taken L s k v) (length (s .free) + length (oldChain s k)))
 
   pub room-pool : hasRoom L s k v ≡ true → taken L s k v ≤ length (pool s k)
   room-pool has = omega (arith, length-pool s k, room-iff .0 has)

@@ -6,9 +6,9 @@ use Prim.Native.Nat.{ℕ, zero, suc}
 use Rattle.model.specs.Lists.{every}
 use Rattle.model.specs.Types.{Leaf, Sep, Inner, Tree}
 use Rattle.model.specs.Accept.{everyChild, throughout}
+use Rattle.model.proofs.Tests.{and-true, and-swap}
+use Rattle.model.proofs.Each.{All, every-iff, every-and}
 use Rattle.model.proofs.Lists.{every-same}
-use Rattle.model.proofs.Tests.{and-true}
-use Rattle.laws_size.proofs.Sundry.{All, every-iff, every-and, and-swap}
 
 -- ---- the children of a node
 -- The first, and those behind the separators.

@@ -11,7 +11,7 @@ use Rattle.model.specs.InLeaf.{Grown, one, two, half, packedLeaf, parted, share
 use Rattle.model.specs.Growing.{Step, newRoot, growUp}
 use Rattle.model.specs.Mending.{joinLeaves, mendLeaf, lowRoot, mendUp, settled}
 use Rattle.model.proofs.Tests.{leb-iff, leb-not}
-use Rattle.laws_size.proofs.Sundry.{All, none, more, all-head, all-append, all-left, all-right}
+use Rattle.model.proofs.Each.{All, nil, cons, all-cons, all-append, all-parts}
 use Rattle.laws_size.proofs.Full.{CellFit, LeafFull, SepFull, NodeFull, Full, FullUnder, FullStore, FrameFull, leastCost, leastRecords, Around, GrownFull, still, parts}
 use Rattle.laws_size.proofs.Cells.{all-packed, fit-moved, costs-append, costs-packed, costs-most}
 use Rattle.laws_size.proofs.Halves.{halves}
@@ -30,7 +30,7 @@ module _ (L : ℕ) where
   root-full : (n d : ℕ) (g : Grown (Tree d)) (free : List ℕ) → GrownFull (Full L d 0 1) (FullUnder L d) g → FullStore L (newRoot n d g free)
   unfolding newRoot innerMost
   root-full n d (one t) free (still p) = p
-  root-full n d (two a k b) free (parts p kk q) = record { enough = omega arith; most = omega arith; head = p; others = more (record { key = kk; child = q }) none }
+  root-full n d (two a k b) free (parts p kk q) = record { enough = omega arith; most = omega arith; head = p; others = cons (record { key = kk; child = q }) nil }
 
   pub growUp-full : {d h : ℕ} (n : ℕ) (c : Context d h) (g : Grown (Tree h)) (free : List ℕ) → Around L c
       → GrownFull (Full L h (leastCost c) (leastRecords c)) (FullUnder L h) g → FullStore L (growUp n c g free)
@@ -73,7 +73,7 @@ module _ (L : ℕ) (room : 508 ≤ L) where
       → GrownFull (FullUnder L 0) (FullUnder L 0) (parted L p q xs ys)
   unfolding parted
   parted-full p q xs [] a b e = still a
-  parted-full p q xs (y ∷ ys) a b e = parts a (all-head e .key) b
+  parted-full p q xs (y ∷ ys) a b e = parts a (all-cons e .0 .key) b
 
   pub shared-full : (p q : ℕ) (cs : List Cell) → All (CellFit L) cs → leafMost L < costs cs → costs cs < leafMost L + leafLeast
       → GrownFull (FullUnder L 0) (FullUnder L 0) (shared L p q cs)
@@ -84,9 +84,9 @@ module _ (L : ℕ) (room : 508 ≤ L) where
       let h = halves L cs room (costs-most a) over few in
       let all : All (CellFit L) (left ++ right) = rw take-append-drop a in
       parted-full p q left right
-      (packed-full leafLeast p left (h .left-enough) (h .left-most) (all-left left right all))
-      (packed-full leafLeast q right (h .right-enough) (h .right-most) (all-right left right all))
-      (all-right left right all)
+      (packed-full leafLeast p left (h .left-enough) (h .left-most) (all-parts left all .0))
+      (packed-full leafLeast q right (h .right-enough) (h .right-most) (all-parts left all .1))
+      (all-parts left all .1)
 
   leaves-full : (a : Leaf) (k : List ℕ) (b : Leaf) → All (CellFit L) (a .cells) → All (CellFit L) (b .cells)
       → leafLeast ≤ costs (a .cells) + costs (b .cells) → costs (a .cells) + costs (b .cells) < leafMost L + leafLeast

@@ -12,7 +12,7 @@ use Rattle.model.specs.InLeaf.{Grown, one, two, half, moved, packedLeaf, parted
 use Rattle.model.specs.Growing.{Step, growStep, newRoot, growUp, growth}
 use Rattle.model.specs.Mending.{joinLeaves, mendLeaf, mendInner, lowRoot, mendUp, settled}
 use Rattle.model.proofs.Lists.{total-nil, total-cons, total-append}
-use Rattle.laws_size.proofs.Sundry.{total-front}
+use Rattle.model.proofs.Sums.{total-front}
 use Rattle.laws_size.proofs.Cells.{total-packed}
 use Rattle.laws_size.proofs.Growth.{growth-full, asks, step-takes}
 use Rattle.laws_size.proofs.Weights.{bySep, ofGrown, node, frame, frees, chains, weight, around, whole, fill-weight, PageFor, step-weight, partnered-weight, mend-weight}

@@ -12,9 +12,9 @@ use Rattle.model.specs.Context.{Left, Frame, Context, top, under, close, fill}
 use Rattle.model.specs.InLeaf.{Grown, one, two}
 use Rattle.model.specs.Growing.{Step, splitRight, grown, growStep}
 use Rattle.model.specs.Mending.{joined, partnered, together, firstOf, lastOf, rotated, joinInner, mendInner}
-use Rattle.model.proofs.Lists.{total-nil, total-cons, total-append}
 use Rattle.model.proofs.Tests.{leb-not}
-use Rattle.laws_size.proofs.Sundry.{total-front}
+use Rattle.model.proofs.Lists.{total-nil, total-cons, total-append}
+use Rattle.model.proofs.Sums.{total-front}
 use Rattle.laws_size.proofs.Growth.{close-count}
 
 -- ---- weights

@@ -1,9 +1,9 @@
 -- Computed tests as facts, and back.
 use mathlib.Core.Path.{_≡_, refl, sym, subst}
 use mathlib.Core.Logic.{_↔_}
-use mathlib.Core.Bool.{Bool, true, false, not, _&&_, _||_, and-eq-true-iff, false≢true}
+use mathlib.Core.Bool.{Bool, true, false, not, _&&_, and-eq-true-iff}
 use Prim.Native.Nat.{ℕ, _≤_, _<_}
-use lib.Dec.{T, leb, ltb, eqb, leb→le, le→leb, nleb→lt, eqb→eq, eqb-refl}
+use lib.Dec.{T, leb, eqb, leb→le, le→leb, nleb→lt, eqb→eq, eqb-refl}
 use Rattle.model.specs.Accept.{between}
 
 pub T-true : (b : Bool) → T b → b ≡ true
@@ -22,6 +22,16 @@ eqb-iff m n = (λ e. eqb→eq m n (subst T (sym e) tt), λ e. rw e (T-true _ (eq
 pub not-true : (b : Bool) → not b ≡ true → b ≡ false
 not-true true e = sym e
 not-true false e = refl
+
+pub cases : {P : Type 0} (b : Bool) → (b ≡ true → P) → (b ≡ false → P) → P
+cases true p q = p refl
+cases false p q = q refl
+
+pub and-swap : (a b c d : Bool) → ((a && b) && (c && d)) ≡ ((a && c) && (b && d))
+and-swap true true c d = refl
+and-swap true false true d = refl
+and-swap true false false d = refl
+and-swap false b c d = refl
 
 pub and-true : (a b : Bool) → a ≡ true → b ≡ true → (a && b) ≡ true
 and-true a b p q = rw p q
