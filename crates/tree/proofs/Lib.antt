@@ -1,0 +1,5 @@
+pub mod Marks
+pub mod Books
+pub mod Links
+pub mod Chained
+pub mod Freed
