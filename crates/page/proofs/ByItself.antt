@@ -1,6 +1,6 @@
 -- Each kind of page by itself: its bytes are its re-encoding exactly if its fixed bytes are right and the rest is zero.
 use mathlib.Core.Path.{_≡_, refl, sym, ap, _∙_}
-use mathlib.Core.Bool.{Bool, true, false}
+use mathlib.Core.Bool.{Bool}
 use mathlib.Core.List.{List, [], _∷_, _++_, append-assoc}
 use Prim.Native.Nat.{ℕ, _+_, _-_, _≤_, _<_}
 use native.Mathlib.Nat.{zero-add}
@@ -8,8 +8,8 @@ use native.Mathlib.Omega.{arith}
 use lib.ListN.{length, getD}
 use Rattle.octets.specs.Says.{Says}
 use Rattle.octets.specs.Runs.{over, part, zeros}
-use Rattle.octets.specs.Numbers.{word16, word32, bytes16, bytes32}
-use Rattle.octets.proofs.Flags.{says-map, says-no}
+use Rattle.octets.specs.Numbers.{word16, bytes16, bytes32}
+use Rattle.octets.proofs.Flags.{says-map}
 use Rattle.octets.proofs.Over.{length-zeros, getD-zeros, over-all, over-append, over-zeros}
 use Rattle.octets.proofs.Part.{part-add, part-at, part-length}
 use Rattle.model.specs.Lists.{pad}

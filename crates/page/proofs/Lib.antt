@@ -1,2 +1,9 @@
 pub mod Fronts
 pub mod ByItself
+pub mod InnerPages
+pub mod InnerLaid
+pub mod InnerChanges
+pub mod InnerReads
+pub mod InnerOrder
+pub mod InnerTested
+pub mod InnerRule

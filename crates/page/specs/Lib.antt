@@ -1,3 +1,4 @@
 pub mod Header
 pub mod Free
 pub mod Overflow
+pub mod Inner
