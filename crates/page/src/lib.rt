@@ -1,6 +1,9 @@
 // One page by itself, a module for each kind but leaves (crate `leaf`): read it, test it, change it. A page is a slice of its usable length.
 // Nothing here knows another page. Contracts are in the model's words: what the bytes are read as (`of..`), and what they are
 // written as (`to..`, crates/model/specs/Layouts.antt). Whether a page follows the rule of its kind by itself is one call for each kind.
+
+#![tactic(auto)]
+
 pub mod header; // page 0: its numbers read, written, and whether it is one (`is_header`)
 pub mod free; // a page of the free list: the next one, made of any page, `is_free`
 pub mod overflow; // a page of a value's chain: the next one and the bytes held, made of any page, `is_overflow`
