@@ -42,6 +42,7 @@ module _ {A : Type 0} {P : A → Type 0} where
   all_of f (cons {x} p ps) = cons (f x p) (all_of f ps)
 
   pub all-member : {x : A} {xs : List A} → All P xs → Memᴰ x xs → P x
+  all-member nil m = elim m [ ]
   all-member (cons p ps) (Memᴰ.head e) = subst P (sym e) p
   all-member (cons p ps) (Memᴰ.tail i) = all-member ps i
 

@@ -31,9 +31,13 @@ pub ≺_trans : {a b c : List ℕ} → a ≺ b → b ≺ c → a ≺ c
 ≺_trans (there g) (here h) = here h
 ≺_trans (there g) (there h) = there (≺_trans g h)
 
+≺_differ : {a b : List ℕ} → a ≺ b → a ≡ b → ⊥
+≺_differ ends e = cc
+≺_differ (here {x} {y} h) e = let f : x ≡ y = cc in omega arith
+≺_differ (there {xs = xs} {ys = ys} h) e = ≺_differ h (let f : xs ≡ ys = cc in f)
+
 pub ≺_irrefl : {a : List ℕ} → a ≺ a → ⊥
-≺_irrefl (here h) = omega arith
-≺_irrefl (there h) = ≺_irrefl h
+≺_irrefl h = ≺_differ h refl
 
 pub ≺_asym : {a b : List ℕ} → a ≺ b → b ≺ a → ⊥
 ≺_asym g h = ≺_irrefl (≺_trans g h)

@@ -1,0 +1,8 @@
+-- The reference stands at its offset.
+use borrow.Author.Rules.{rules}
+use Rattle.model.specs.Layouts.{of_free}
+use Rattle.page.proofs.free.next.Goals as goal
+
+pub returns : goal.returns
+unfolding of_free
+returns c = c.get16.ensures

@@ -1,0 +1,10 @@
+-- The first child and each record's stand at their offsets.
+use borrow.Author.Rules.{rules}
+use Rattle.page.proofs.InnerPages.{child-first, child-later}
+use Rattle.page.proofs.inner.child.Goals as goal
+
+pub returns-then-place-eq0 : goal.returns-then-place-eq0
+returns-then-place-eq0 c = child-first _ _ _ c.if-place-eq0.true c.get16.ensures
+
+pub returns : goal.returns
+returns c = child-later _ _ _ c.if-place-eq0.false c.get16-2.ensures

@@ -1,0 +1,10 @@
+-- The bytes are those of the layout, one after another.
+use borrow.Author.Rules.{rules}
+use mathlib.Core.Path.{refl}
+use Rattle.octets.specs.Numbers.{bytes16}
+use Rattle.page.specs.Overflow.{over_front}
+use Rattle.page.proofs.overflow.front.Goals as goal
+
+pub returns : goal.returns
+unfolding over_front bytes16
+returns c = refl

@@ -1,0 +1,15 @@
+-- The part ends as many bytes behind offset 8 as the page says.
+use borrow.Author.Rules.{rules}
+use mathlib.Core.Path.{◌≡◌}
+use Prim.Native.Nat.{◌+◌, ◌-◌}
+use native.Mathlib.Omega.{arith}
+use Rattle.octets.specs.Runs.{part}
+use Rattle.octets.specs.Numbers.{word16}
+use Rattle.model.specs.Layouts.{of_over}
+use Rattle.page.proofs.overflow.held.Goals as goal
+
+pub returns : goal.returns
+unfolding of_over part
+returns c =
+    let e : 8 + c.count-e.result - 8 ≡ word16 c.args.page.now 4 = omega (arith, c.count-e.ensures.0) in
+    rw e

@@ -1,0 +1,8 @@
+-- The reference stands at its offset.
+use borrow.Author.Rules.{rules}
+use Rattle.model.specs.Layouts.{of_over}
+use Rattle.page.proofs.overflow.next.Goals as goal
+
+pub returns : goal.returns
+unfolding of_over
+returns c = c.get16.ensures
