@@ -21,7 +21,7 @@ use Rattle.model.proofs.Tests.{not-true, and-true, cases}
 use Rattle.model.proofs.Lists.{length-total, length_from, get_d_map_from}
 use Rattle.laws_image.proofs.Numbered.{places}
 use Rattle.checking.proofs.Marking.{marking, Noted, Named, role_at-times, times-role_at, marking_noted, noted_marking, role_at-here, role_at-there, by_same}
-use Rattle.model.proofs.Each.{All, nil, cons, all_of, all_from}
+use Rattle.model.proofs.Each.{All, all_of, all_from}
 use Rattle.model.proofs.OnceEach.{Once, once_zero, once-above, once_iff}
 use Rattle.model.proofs.Sums.{times-from, times_none, total-numbers}
 

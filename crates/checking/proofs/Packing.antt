@@ -80,7 +80,7 @@ module _ (a b o n : ℕ) where
       (λ u. let h = leb-false b o t in let k = leb-false (o + n) a u in
       omega (arith, meeting h k, more (min b o) o a (omega arith), less b (max a (o + n)) (o + n) (omega arith))))
 
-packed : (a b : ℕ) {L s : ℕ} {cs : List Placed} → Cells L s cs → total (inside a b) cs ≤ b - a
+packed : {L s : ℕ} (a b : ℕ) {cs : List Placed} → Cells L s cs → total (inside a b) cs ≤ b - a
 unfolding total
 packed a b no_cell = omega arith
 packed a b (a-cell {c} f o fs) =

@@ -1,12 +1,12 @@
 -- The rules of a page by itself, a test for each kind: the page is its own re-encoding, the lengths are within their limits, the cells
 -- are inside and apart, the keys rise. Pages are given by their usable bytes.
-use Rattle.std.specs.Prelude.{Bool, true, false, ◌&&◌, ◌||◌, List, [], ◌∷◌, map, ℕ, ◌+◌, ◌*◌, length, get_or, leb, eqb}
+use Rattle.std.specs.Prelude.{Bool, true, ◌&&◌, ◌||◌, List, [], ◌∷◌, map, ℕ, ◌+◌, ◌*◌, length, get_or, leb, eqb}
 use Rattle.octets.specs.Runs.{part}
 use Rattle.octets.specs.Numbers.{word16}
 use Rattle.model.specs.Lists.{every, total, same}
 use Rattle.model.specs.Edition.{Edition}
 use Rattle.model.specs.Sizes.{key_most, value_most}
-use Rattle.model.specs.Layouts.{HeadPage, LeafPage, Placed, InnerPage, to_head, of_head, to_free, of_free, to_leaf, of_leaf, cell_size, to_inner, of_inner, to_over, of_over}
+use Rattle.model.specs.Layouts.{LeafPage, Placed, to_head, of_head, to_free, of_free, to_leaf, of_leaf, cell_size, to_inner, of_inner, to_over, of_over}
 use Rattle.model.specs.Accept.{between, key_fits, rising}
 
 -- Header: its layout, the image's n, the height and the edition

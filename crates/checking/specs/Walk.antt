@@ -1,7 +1,7 @@
 -- The walk of check: tree, chains and free list. It marks each page's role in the work area when it meets the page, and refuses a page
 -- that is no page of the image or has a role already. `ps` are the pages' usable bytes, `n` is their number.
-use Rattle.std.specs.Prelude.{Bool, true, false, not, ◌&&◌, ◌||◌, List, [], ◌∷◌, ℕ, zero, suc, ◌+◌, ◌-◌, pred, length, get_or, set, take, drop, leb, eqb}
-use Rattle.std.proofs.Math.Option.{Option, none, some}
+use Rattle.std.specs.Prelude.{Bool, true, false, not, ◌&&◌, ◌||◌, List, [], ◌∷◌, ℕ, zero, suc, ◌+◌, ◌-◌, pred, length, get_or, set, take, leb, eqb}
+use Rattle.std.proofs.Math.Option.{Option, some}
 use Rattle.octets.specs.Choice.{choose}
 use Rattle.octets.specs.Runs.{zeros}
 use Rattle.octets.specs.Keys.{before}
@@ -11,7 +11,7 @@ use Rattle.model.specs.Edition.{Edition}
 use Rattle.model.specs.Types.{Sep}
 use Rattle.model.specs.Map.{below_bound}
 use Rattle.model.specs.Sizes.{leaf_least, inner_least, inner_most, inline_most, payload, chain_length}
-use Rattle.model.specs.Layouts.{HeadPage, LeafPage, Placed, InnerPage, of_head, of_free, of_leaf, of_inner, of_over}
+use Rattle.model.specs.Layouts.{LeafPage, Placed, InnerPage, of_head, of_free, of_leaf, of_inner, of_over}
 use Rattle.model.specs.Accept.{between}
 use Rattle.model.specs.Refusals.{entered}
 use Rattle.checking.specs.Alone.{head_alone, free_alone, over_alone, inner_alone, leaf_alone, key_of, value_length, page_cost}

@@ -14,7 +14,7 @@ use Rattle.octets.proofs.Part.{part-over-out, part-here}
 use Rattle.octets.proofs.Words.{word16-over-out, word16-front}
 use Rattle.model.specs.Lists.{gather, from, pad}
 use Rattle.model.specs.Layouts.{Placed, LeafPage, slot_bytes, leaf_top, with_cells, to_leaf, cell_size, placed_at, slot_of, of_leaf}
-use Rattle.model.proofs.Each.{All, nil, cons}
+use Rattle.model.proofs.Each.{All, nil, cons, all_cons}
 use Rattle.model.proofs.Lists.{length-pad, Reads, none, one, map-from}
 use Rattle.laws_image.proofs.Sundry.{word16-drop}
 
@@ -50,16 +50,18 @@ length-with_cells (c ∷ cs) page = length-with_cells cs (over page c.at c.bytes
 
 pub part-with_cells : {cs : List Placed} (page : List ℕ) (j n : ℕ) → j + n ≤ length page → Clear j n cs → part (with_cells cs page) j n ≡ part page j n
 unfolding with_cells
-part-with_cells page j n h nil = refl
-part-with_cells page j n h (cons {x = c} a r) =
+part-with_cells {cs = []} page j n h x = refl
+part-with_cells {cs = c ∷ cs} page j n h x =
+    let r = all_cons x in
     let e : length (over page c.at c.bytes) ≡ length page = length_over page c.at c.bytes in
-    part-with_cells (over page c.at c.bytes) j n (omega arith) r ∙ part-over-out page c.at c.bytes j n h a
+    part-with_cells (over page c.at c.bytes) j n (omega arith) r.1 ∙ part-over-out page c.at c.bytes j n h r.0
 
 pub word16-with_cells : {cs : List Placed} (page : List ℕ) (j : ℕ) → Clear j 2 cs → word16 (with_cells cs page) j ≡ word16 page j
 unfolding with_cells
-word16-with_cells page j nil = refl
-word16-with_cells page j (cons {x = c} a r) =
-    word16-with_cells (over page c.at c.bytes) j r ∙ word16-over-out page c.at c.bytes j a
+word16-with_cells {cs = []} page j x = refl
+word16-with_cells {cs = c ∷ cs} page j x =
+    let r = all_cons x in
+    word16-with_cells (over page c.at c.bytes) j r.1 ∙ word16-over-out page c.at c.bytes j r.0
 
 pub clear-below : {L start : ℕ} {cs : List Placed} (j n : ℕ) → j + n ≤ start → Cells L start cs → Clear j n cs
 clear-below j n h no_cell = nil

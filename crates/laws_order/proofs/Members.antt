@@ -20,6 +20,7 @@ lookup-there k v (x ∷ xs) e =
     (λ h. Memᴰ.tail (lookup-there k v xs (sym (lookup-past k x xs h) ∙ e)))
 
 there-lookup : (e : Entry) (m : List Entry) → Rising m → Memᴰ e m → lookup e.key m ≡ some e.value
+there-lookup e [] r i = elim i [ ]
 there-lookup e (x ∷ xs) r (Memᴰ.head q) = rw q (lookup-at x.key x xs refl)
 there-lookup e (x ∷ xs) (more-sorted a r) (Memᴰ.tail i) = lookup-past e.key x xs (all-member (all_of_map _ real xs a) i) ∙ there-lookup e xs r i
 

@@ -1,11 +1,12 @@
 -- Packing leaves the line of a leaf alone; two leaves joined lose the separator between them, and a leaf parted gains the right one's first key.
 use mathlib.Core.Path.{◌≡◌, refl, sym, ap, ◌∙◌}
 use mathlib.Core.List.{List, [], ◌∷◌, ◌++◌, append_assoc, append-nil, map}
-use Prim.Native.Nat.{ℕ}
+use Prim.Native.Nat.{ℕ, ◌-◌}
 use lib.ListN.{take, drop, take-append-drop}
 use Rattle.octets.proofs.Choice.{either}
 use Rattle.model.specs.Lists.{gather}
 use Rattle.model.specs.Types.{Cell, Leaf, Entry, entry, entries}
+use Rattle.model.specs.Sizes.{cell_length}
 use Rattle.model.specs.InLeaf.{Grown, moved, packed, half, packed_leaf, parted, shared}
 use Rattle.model.specs.Mending.{join_leaves}
 use Rattle.model.proofs.Lists.{map-append}
@@ -44,7 +45,7 @@ row-append xs ys = ap (map real) (map-append entry xs ys) ∙ map-append real (m
 pub packed-entries : (e : ℕ) (cs : List Cell) → map entry (packed e cs) ≡ map entry cs
 unfolding packed moved entry
 packed-entries e [] = refl
-packed-entries e (c ∷ cs) = ap (λ (l : List Entry). record { key = c.key; value = c.value } ∷ l) (packed-entries _ cs)
+packed-entries e (c ∷ cs) = ap (λ (l : List Entry). record { key = c.key; value = c.value } ∷ l) (packed-entries (e - cell_length c) cs)
 
 packed-line : (L p : ℕ) (cs : List Cell) → line 0 (packed_leaf L p cs) ≡ row cs
 unfolding line entries packed_leaf row

@@ -23,6 +23,7 @@ module _ (low high : List ℕ) where
 
   there-range : (e : Entry) (m : List Entry) → Memᴰ e m → in_range low high e.key ≡ true → Memᴰ e (range low high m)
   unfolding range
+  there-range e [] i t = elim i [ ]
   there-range e (x ∷ xs) (Memᴰ.head q) t = rw (choose-true (in_range low high x.key) (x ∷ range low high xs) (range low high xs) (rw q at t)) (Memᴰ.head q)
   there-range e (x ∷ xs) (Memᴰ.tail i) t =
       either (Memᴰ e) (in_range low high x.key) _ _ (Memᴰ.tail (there-range e xs i t)) (there-range e xs i t)

@@ -35,7 +35,7 @@ module _ {P : Cell → Type 0} where
   pub all-packed : ((o : ℕ) (c : Cell) → P c → P (moved o c)) → (e : ℕ) {cs : List Cell} → All P cs → All P (packed e cs)
   unfolding packed
   all-packed f e nil = nil
-  all-packed f e (cons p a) = cons (f _ _ p) (all-packed f _ a)
+  all-packed f e (cons {x = x} p a) = cons (f _ _ p) (all-packed f (e - cell_length x) a)
 
 pub fit-moved : {L : ℕ} (o : ℕ) (c : Cell) → CellFit L c → CellFit L (moved o c)
 unfolding moved

@@ -140,7 +140,7 @@ module _ {A : Type 0} (P : A → Type 0) where
       (made P b.page x.child came j.child (cons (record { key = kk; child = s.head }) s.others) (omega (arith, s.enough)) (omega arith))
   last-full a {front = front} s kk h fr (cons {x = x} j (cons i r)) l f g m =
       let n = length-append front (x ∷ []) in
-      last-full a s kk h (all_append fr (cons j nil)) (cons i r) (omega arith) f (omega arith) (omega arith)
+      last-full a {front = front ++ (x ∷ [])} s kk h (all_append fr (cons j nil)) (cons i r) (omega arith) f (omega arith) (omega arith)
 
   rotated-full : {a : Inner A} {k : List ℕ} {b : Inner A} → NodeFull P (inner_least - 1) a → KeyFit k → NodeFull P (inner_least - 1) b
       → (length a.rest ≡ length b.rest → ⊥) → inner_most ≤ length a.rest + length b.rest

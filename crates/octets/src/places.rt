@@ -1,11 +1,11 @@
 // A page of an image, by its number; 0 as a reference means none.
-#[derive(Drop)]
+#[derive(Clone, Copy)]
 pub struct PageNo(pub u16);
 
 // A slot of a leaf, counted from 0.
-#[derive(Drop)]
+#[derive(Clone, Copy)]
 pub struct Slot(pub usize);
 
 // A byte of a slice, counted from its start.
-#[derive(Drop)]
+#[derive(Clone, Copy)]
 pub struct Offset(pub usize);

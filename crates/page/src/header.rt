@@ -6,7 +6,7 @@ ghost use Rattle.page.specs.Header.{head_of, front_of, HeadBytes};
 use octets::places::{Offset, PageNo};
 
 // What page 0 says of the store.
-#[derive(Drop)]
+#[derive(Clone, Copy)]
 pub struct Header {
     pub n: u16,
     pub root: PageNo,

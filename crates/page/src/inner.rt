@@ -7,7 +7,7 @@ ghost use Rattle.page.specs.Inner.{child_of, keyIn, key_of, record_is, place_in,
 use octets::places::{Offset, PageNo};
 
 // A key by value, with zeros behind it.
-#[derive(Drop)]
+#[derive(Clone, Copy)]
 pub struct Key {
     pub bytes: [u8; 32],
     pub len: usize,

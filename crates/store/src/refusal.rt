@@ -2,7 +2,7 @@ ghost use Rattle.std.specs.Prelude.{◌≡◌};
 ghost use Rattle.store.specs.Numbers.{number_of};
 
 // Why a call was refused, or that it was done. The numbers are document 01's (specs/Numbers.antt).
-#[derive(Drop)]
+#[derive(Clone, Copy)]
 pub enum Refusal {
     Done,
     BadImage,

@@ -8,7 +8,7 @@ ghost use Rattle.tree.specs.Work.{said, Keeps};
 use octets::places::PageNo;
 
 // Whether a page is one of a chain, and the page that it names as next.
-#[derive(Drop)]
+#[derive(Clone, Copy)]
 pub struct Link {
     pub ok: bool,
     pub next: PageNo,

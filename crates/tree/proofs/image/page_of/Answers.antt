@@ -1,0 +1,9 @@
+-- The part begins at the page's number times its length.
+use borrow.Author.Rules.{rules}
+use Rattle.octets.specs.Runs.{part}
+use Rattle.tree.proofs.Books.{page-taken}
+use Rattle.tree.proofs.image.page_of.Goals as goal
+
+pub returns : goal.returns
+unfolding part
+returns c = page-taken _ _
