@@ -4,7 +4,7 @@ use mathlib.Core.Path.{◌≡◌, refl, sym, ap, ◌∙◌}
 use mathlib.Core.Bool.{true, false, and-eq-true_iff}
 use mathlib.Core.List.{List, [], ◌∷◌, ◌++◌}
 use mathlib.Core.Option.{some, none, none-ne-some}
-use Prim.Native.Nat.{ℕ, ◌+◌, ◌-◌, ◌/◌, ◌≤◌}
+use Prim.Native.Nat.{ℕ, ◌-◌, ◌/◌, ◌≤◌}
 use native.Mathlib.Nat.{le_refl}
 use native.Mathlib.Omega.{arith}
 use lib.ListN.{length, drop}
