@@ -23,7 +23,7 @@ use Rattle.model.proofs.Editions.{Lawful, lawful1}
 use Rattle.laws_image.proofs.Layouts.{of_head-to_head}
 use Rattle.laws_image.proofs.Valid.{clauses}
 use Rattle.laws_image.proofs.Whole.{pages_iff}
-use Rattle.laws_image.proofs.ByPages.{ByPages, size, cut_pages, open_pages, get_d_cut, get_d_open_pages, accepts-pages, pages-accepted}
+use Rattle.laws_image.proofs.ByPages.{ByPages, size, cut_pages, open_pages, get_or-cut, get_or-open_pages, accepts-pages, pages-accepted}
 use Rattle.checking.specs.Walk.{check_walk}
 use Rattle.checking.proofs.Small.{Small, small_take}
 use Rattle.checking.proofs.Store.{Stored, head_store, pages-sound, pages-whole}
@@ -123,7 +123,7 @@ module _ (E : Edition) (lawful : Lawful E) (img work : List ℕ) (good : good_im
 -- It seals nothing.
 
 sealed1 : (img : List ℕ) → Sealed edition1 img
-sealed1 img p h = get_d_open_pages edition1 lawful1 img p h ∙ sym (get_d_cut 512 (size edition1 img) img p h)
+sealed1 img p h = get_or-open_pages edition1 lawful1 img p h ∙ sym (get_or-cut 512 (size edition1 img) img p h)
 
 pub checks1 : (img work : List ℕ) → good_image edition1 (length img) ≡ true → ((i : ℕ) → get_or img i 0 < 256) → length img / 512 ≤ length work
     → check_walk edition1 (length img / 512) (open_pages edition1 img) work

@@ -12,13 +12,13 @@ use lib.Seq.{get_or-append-add, get_or-drop, ext_get_or}
 use lib.Dec.{eqb, leb}
 use borrow.Author.Tests.{eqb-false, ne_eqb, leb-true, leb-false}
 use Rattle.octets.specs.Runs.{zeros}
-use Rattle.octets.proofs.Over.{length-zeros, get_d_zeros}
+use Rattle.octets.proofs.Over.{length-zeros, get_or-zeros}
 use Rattle.model.specs.Lists.{every, from, times}
 use Rattle.model.specs.Types.{Mark, marked}
 use Rattle.model.specs.Accept.{once_each}
 use Rattle.model.specs.Refusals.{role_at, entered}
 use Rattle.model.proofs.Tests.{not-true, and-true, cases}
-use Rattle.model.proofs.Lists.{length-total, length_from, get_d_map_from}
+use Rattle.model.proofs.Lists.{length-total, length_from, get_or-map_from}
 use Rattle.laws_image.proofs.Numbered.{places}
 use Rattle.checking.proofs.Marking.{marking, Noted, Named, role_at-times, times-role_at, marking_noted, noted_marking, role_at-here, role_at-there, by_same}
 use Rattle.model.proofs.Each.{All, all_of, all_from}
@@ -93,7 +93,7 @@ module _ (n : ℕ) (ms : List Mark) (work : List ℕ) (some-page : 1 ≤ n) (roo
 
   start-page : (p : ℕ) → 1 ≤ p → p < n → get_or (entered start work) p 0 ≡ 0
   start-page zero g h = absurd (omega arith)
-  start-page (suc p) g h = entered-first start work (omega (arith, length-start)) (suc p) (omega (arith, length-start)) ∙ get_d_zeros (n - 1) p
+  start-page (suc p) g h = entered-first start work (omega (arith, length-start)) (suc p) (omega (arith, length-start)) ∙ get_or-zeros (n - 1) p
 
   start-rest : (p : ℕ) → n ≤ p → get_or (entered start work) p 0 ≡ get_or work p 0
   start-rest p h = entered-rest start work (omega (arith, length-start)) p (omega (arith, length-start))
@@ -101,7 +101,7 @@ module _ (n : ℕ) (ms : List Mark) (work : List ℕ) (some-page : 1 ≤ n) (roo
   ends-page : (p : ℕ) → p < n → get_or (entered ends work) p 0 ≡ role_at p (marked 5 0 ∷ ms)
   ends-page p h =
       entered-first ends work (omega (arith, length-ends)) p (omega (arith, length-ends))
-      ∙ get_d_map_from (λ q. role_at q (marked 5 0 ∷ ms)) 0 0 n p h ∙ rw zero-add
+      ∙ get_or-map_from (λ q. role_at q (marked 5 0 ∷ ms)) 0 0 n p h ∙ rw zero-add
 
   ends-rest : (p : ℕ) → n ≤ p → get_or (entered ends work) p 0 ≡ get_or work p 0
   ends-rest p h = entered-rest ends work (omega (arith, length-ends)) p (omega (arith, length-ends))

@@ -7,7 +7,7 @@ use native.Mathlib.Omega.{arith}
 use lib.ListN.{length, get_or, drop, length-append, length-drop, get_or-append}
 use lib.Seq.{get_or-append-add, get_or-drop}
 use Rattle.octets.specs.Runs.{zeros}
-use Rattle.octets.proofs.Over.{length-zeros, get_d_zeros}
+use Rattle.octets.proofs.Over.{length-zeros, get_or-zeros}
 use Rattle.model.specs.Edition.{Edition}
 use Rattle.model.specs.Decode.{decode}
 use Rattle.model.specs.Accept.{accepts}
@@ -63,7 +63,7 @@ module _ (E : Edition) (image work : List ℕ) where
 
 -- "or 0 in all n entries if the image is damaged"
 pub work-damaged : (n : ℕ) (work : List ℕ) (i : ℕ) → i < n → get_or (entered (zeros n) work) i 0 ≡ 0
-work-damaged n work i h = entered-front (zeros n) work i (rw length-zeros h) ∙ get_d_zeros n i
+work-damaged n work i h = entered-front (zeros n) work i (rw length-zeros h) ∙ get_or-zeros n i
 
 pub work-damaged_beyond : (n : ℕ) (work : List ℕ) (i : ℕ) → get_or (entered (zeros n) work) (n + i) 0 ≡ get_or work (n + i) 0
 work-damaged_beyond n work i = rw length-zeros at (entered_beyond (zeros n) work i)

@@ -22,7 +22,7 @@ use Rattle.model.specs.Refusals.{good_image}
 use Rattle.model.proofs.Editions.{Lawful}
 use Rattle.model.proofs.Tests.{eqb_iff, between_iff, and-true}
 use Rattle.model.proofs.Each.{all_from, nil, cons}
-use Rattle.model.proofs.Lists.{same_refl, get_d_map_from, gather_ext, gather_suc}
+use Rattle.model.proofs.Lists.{same_refl, get_or-map_from, gather_ext, gather_suc}
 use Rattle.model.proofs.Sums.{is-other, times-nil, times-cons}
 use Rattle.laws_image.proofs.Standing.{Standing}
 use Rattle.laws_image.proofs.Valid.{clauses}
@@ -43,13 +43,13 @@ cut_pages E img = cut E.width (size E img) img
 abbrev pub open_pages : Edition → List ℕ → List (List ℕ)
 open_pages E img = map (take E.usable) (cut_pages E img)
 
-pub get_d_cut : (W n : ℕ) (img : List ℕ) (p : ℕ) → p < n → get_or (cut W n img) p [] ≡ part img (p * W) W
+pub get_or-cut : (W n : ℕ) (img : List ℕ) (p : ℕ) → p < n → get_or (cut W n img) p [] ≡ part img (p * W) W
 unfolding cut part
-get_d_cut W zero img p h = absurd (omega arith)
-get_d_cut W (suc n) img zero h = let e : 0 * W ≡ 0 = omega arith in rw e
-get_d_cut W (suc n) img (suc p) h =
+get_or-cut W zero img p h = absurd (omega arith)
+get_or-cut W (suc n) img zero h = let e : 0 * W ≡ 0 = omega arith in rw e
+get_or-cut W (suc n) img (suc p) h =
     let e : W + p * W ≡ suc p * W = omega arith in
-    get_d_cut W n (drop W img) p (omega arith) ∙ rw (drop-drop, e)
+    get_or-cut W n (drop W img) p (omega arith) ∙ rw (drop-drop, e)
 
 -- the usable bytes are the first of a page
 pub usable-width : (E : Edition) → Lawful E → E.usable ≤ E.width
@@ -59,12 +59,12 @@ usable-width E lawful =
     let k = lawful.sealed z l in
     omega (arith, k.0, ap length k.1, length-take E.usable (E.seal z))
 
-pub get_d_open_pages : (E : Edition) → Lawful E → (img : List ℕ) (p : ℕ) → p < size E img
+pub get_or-open_pages : (E : Edition) → Lawful E → (img : List ℕ) (p : ℕ) → p < size E img
     → get_or (open_pages E img) p [] ≡ part img (p * E.width) E.usable
 unfolding part
-get_d_open_pages E lawful img p h =
+get_or-open_pages E lawful img p h =
     ap (get_or (open_pages E img) p) (sym (take-nil E.usable)) ∙ get_or-map (take E.usable) (cut_pages E img) p []
-    ∙ rw (get_d_cut E.width (size E img) img p h) (take-take E.usable E.width (drop (p * E.width) img) (usable-width E lawful))
+    ∙ rw (get_or-cut E.width (size E img) img p h) (take-take E.usable E.width (drop (p * E.width) img) (usable-width E lawful))
 
 pub joined-cut : (W n : ℕ) (img : List ℕ) → length img ≡ n * W → gather (λ p. get_or (cut W n img) p []) (from 0 n) ≡ img
 unfolding cut gather from
@@ -128,7 +128,7 @@ module _ (E : Edition) (lawful : Lawful E) (s : Store) (t : valid E s ≡ true) 
   seals p l =
       let h : p < s.n = omega arith in
       rw (← en, ← ei, cut_opened E lawful s t, cut-encode E lawful s t)
-      (rw (get_d_map_from (opened E s) [] 0 s.n p h) (sym (get_d_map_from (sealed E s) [] 0 s.n p h)))
+      (rw (get_or-map_from (opened E s) [] 0 s.n p h) (sym (get_or-map_from (sealed E s) [] 0 s.n p h)))
 
 module _ (E : Edition) (lawful : Lawful E) (img : List ℕ) where
   pub pages-accepted : accepts E img ≡ true → ByPages E img

@@ -19,7 +19,7 @@ use Rattle.model.specs.Decode.{cut}
 use Rattle.model.specs.Accept.{valid}
 use Rattle.model.proofs.Editions.{Lawful}
 use Rattle.model.proofs.Each.{All, nil, cons, all_of, all_both, all_of_map}
-use Rattle.model.proofs.Lists.{get_d_map_from}
+use Rattle.model.proofs.Lists.{get_or-map_from}
 use Rattle.model.proofs.Sums.{found-own}
 use Rattle.laws_image.proofs.Standing.{Standing}
 use Rattle.laws_image.proofs.Valid.{sound}
@@ -87,7 +87,7 @@ module _ (E : Edition) (lawful : Lawful E) (s : Store) (t : valid E s ≡ true) 
 
   pub standing : Standing (map (opened E s) (from 0 s.n)) (pages E s)
   standing =
-      all_of (λ q e. get_d_map_from (opened E s) [] 0 s.n q.number e.0 ∙ rw zero-add e.1)
+      all_of (λ q e. get_or-map_from (opened E s) [] 0 s.n q.number e.0 ∙ rw zero-add e.1)
       (all_both below (page_at-own (pages E s) (zeros E.usable) (rw (numbers-pages E s) (page-most E s t))))
 
   pub length-encode : length (encode E s) ≡ s.n * E.width

@@ -31,7 +31,7 @@ use Rattle.laws_image.proofs.Cell.{length-cell_bytes}
 use Rattle.laws_image.proofs.Tree.{SoundLeaf, SoundSep, Sound, tree_pages-leaf, tree_pages-inner}
 use Rattle.laws_image.proofs.Valid.{sound}
 use Rattle.laws_image.proofs.Whole.{pages_iff}
-use Rattle.laws_image.proofs.ByPages.{size, cut_pages, open_pages, usable-width, get_d_open_pages, pages-accepted}
+use Rattle.laws_image.proofs.ByPages.{size, cut_pages, open_pages, usable-width, get_or-open_pages, pages-accepted}
 
 -- ---- in a page
 -- What is written after a cell leaves it.
@@ -139,7 +139,7 @@ module _ (E : Edition) (lawful : Lawful E) (img : List ℕ) (t : accepts E img �
   in_image : (l : Leaf) → InPlace E.usable (open_pages E img) l → All (λ c. Stands (length img) img (l.page * E.width + c.at) (cell_bytes c)) l.cells
   in_image l p =
       let b = below l p in
-      let e = sym (get_d_open_pages E lawful img l.page b) in
+      let e = sym (get_or-open_pages E lawful img l.page b) in
       let k = mul-le-mul_right E.width b in
       let h : l.page * E.width + E.usable ≤ length img = omega (arith, usable-width E lawful, (pages-accepted E lawful img t).whole) in
       all_of (λ c q. stands_in_lem img _ (l.page * E.width) c.at (cell_bytes c) e h q) p.cells

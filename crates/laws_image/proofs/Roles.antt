@@ -15,7 +15,7 @@ use Rattle.model.specs.Types.{Leaf, Inner, Tree, Store, Mark, across, marked, wa
 use Rattle.model.specs.Accept.{valid}
 use Rattle.model.specs.Refusals.{role_at, roles}
 use Rattle.model.proofs.Each.{All, cons, all_of, all_append, all_map, all-gather, all_of_map, all_both, all_from}
-use Rattle.model.proofs.Lists.{total-map, total-cons, times-total, length_from, length-total, get_d_map_from}
+use Rattle.model.proofs.Lists.{total-map, total-cons, times-total, length_from, length-total, get_or-map_from}
 use Rattle.model.proofs.Sums.{is, is_same, is-other, times-from, found-own, total-add, total_ext, total-none, total-numbers}
 use Rattle.laws_image.specs.Marks.{marks}
 use Rattle.laws_image.proofs.Valid.{clauses}
@@ -86,7 +86,7 @@ module _ (E : Edition) (s : Store) (t : valid E s ≡ true) where
 
   pub roles-own : All (λ m. get_or (roles s) m.page 0 ≡ m.role) (marks s)
   roles-own =
-      all_of (λ m k. ap (λ (l : List ℕ). get_or l m.page 0) (roles-marks s) ∙ get_d_map_from _ 0 0 s.n m.page k.0 ∙ rw zero-add k.1)
+      all_of (λ m k. ap (λ (l : List ℕ). get_or l m.page 0) (roles-marks s) ∙ get_or-map_from _ 0 0 s.n m.page k.0 ∙ rw zero-add k.1)
       (all_both below role_at-own)
 
   -- ---- check's counts

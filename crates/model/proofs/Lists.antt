@@ -115,11 +115,11 @@ unfolding from
 map-from none = refl
 map-from (one e r) = rw (e, map-from r)
 
-pub get_d_map_from : {A : Type 0} (f : ℕ → A) (d : A) (i k p : ℕ) → p < k → get_or (map f (from i k)) p d ≡ f (i + p)
+pub get_or-map_from : {A : Type 0} (f : ℕ → A) (d : A) (i k p : ℕ) → p < k → get_or (map f (from i k)) p d ≡ f (i + p)
 unfolding from
-get_d_map_from f d i zero p h = absurd (omega arith)
-get_d_map_from f d i (suc k) zero h = rw add-zero
-get_d_map_from f d i (suc k) (suc p) h = let e : suc i + p ≡ i + suc p = omega arith in get_d_map_from f d (suc i) k p (omega arith) ∙ rw e
+get_or-map_from f d i zero p h = absurd (omega arith)
+get_or-map_from f d i (suc k) zero h = rw add-zero
+get_or-map_from f d i (suc k) (suc p) h = let e : suc i + p ≡ i + suc p = omega arith in get_or-map_from f d (suc i) k p (omega arith) ∙ rw e
 
 -- The same bytes ----------------------------------------------------------------------------------------------------------
 -- Two runs of bytes that test the same are one.

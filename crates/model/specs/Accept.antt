@@ -1,6 +1,6 @@
 -- What check accepts. An image is accepted exactly if the store that it decodes to is valid and encodes to the same bytes.
 -- "The layouts above", the links and the entry count are in the encoding; `valid` has a clause for each phrase that is not.
-use Rattle.std.specs.Prelude.{Bool, true, false, not, ◌&&◌, ◌||◌, List, [], ◌∷◌, map, ℕ, zero, suc, ◌+◌, ◌*◌, ◌-◌, length, leb, eqb}
+use Rattle.std.specs.Prelude.{Bool, true, not, ◌&&◌, ◌||◌, List, [], ◌∷◌, map, ℕ, zero, suc, ◌+◌, ◌*◌, ◌-◌, length, leb, eqb}
 use Rattle.std.proofs.Math.Option.{Option, none, some}
 use Rattle.octets.specs.Keys.{before}
 use Rattle.model.specs.Lists.{every, from, times, same}

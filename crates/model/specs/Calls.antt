@@ -1,6 +1,6 @@
 -- The outcome of each call, from all its inputs: the numbers that it answers with, and what each buffer that it may write holds afterwards.
 -- "Numbers that come with a refusal are 0, and flags no, unless the table gives them."
-use Rattle.std.specs.Prelude.{Bool, true, false, not, List, [], ◌∷◌, ◌++◌, map, ℕ, suc, ◌+◌, ◌*◌, ◌-◌, ◌/◌, length, leb, ltb, eqb}
+use Rattle.std.specs.Prelude.{Bool, true, false, List, [], ◌∷◌, ◌++◌, map, ℕ, suc, ◌+◌, ◌*◌, ◌-◌, ◌/◌, length, leb, ltb, eqb}
 use Rattle.std.proofs.Math.Option.{Option, none, some}
 use Rattle.octets.specs.Choice.{choose}
 use Rattle.octets.specs.Runs.{over}

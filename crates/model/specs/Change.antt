@@ -1,12 +1,12 @@
 -- Rules of change: format, the free list, put and delete.
-use Rattle.std.specs.Prelude.{Bool, true, false, ℕ, suc, ◌+◌, ◌-◌, length, take, drop, leb, ltb}
-use mathlib.Core.List.{List, [], ◌∷◌, reverse_aux, tail}
+use Rattle.std.specs.Prelude.{Bool, ℕ, suc, ◌+◌, ◌-◌, length, take, drop, leb, ltb}
+use mathlib.Core.List.{List, [], reverse_aux, tail}
 use Rattle.octets.specs.Choice.{choose}
 use Rattle.model.specs.Lists.{gather, head_or, from}
-use Rattle.model.specs.Types.{Cell, Leaf, Store}
+use Rattle.model.specs.Types.{Cell, Store}
 use Rattle.model.specs.Sizes.{leaf_most, chain_length, costs}
 use Rattle.model.specs.Context.{Spot, top, descend}
-use Rattle.model.specs.InLeaf.{without, with, found, removed, added, shared}
+use Rattle.model.specs.InLeaf.{with, found, removed, added, shared}
 use Rattle.model.specs.Growing.{grow_up, growth}
 use Rattle.model.specs.Mending.{settled}
 

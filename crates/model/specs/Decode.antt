@@ -1,5 +1,5 @@
 -- From an image to a store. It is total: of any bytes it makes some store, and counts that no valid store has are cut off.
-use Rattle.std.specs.Prelude.{Bool, true, false, List, [], ◌∷◌, ◌++◌, map, ℕ, zero, suc, ◌/◌, min, pred, length, get_or, take, drop, leb, eqb}
+use Rattle.std.specs.Prelude.{List, [], ◌∷◌, map, ℕ, zero, suc, ◌/◌, min, pred, length, get_or, take, drop, leb, eqb}
 use Rattle.octets.specs.Choice.{choose}
 use Rattle.octets.specs.Numbers.{word16}
 use Rattle.model.specs.Lists.{gather}

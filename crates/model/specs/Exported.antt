@@ -3,7 +3,7 @@
 use Rattle.std.specs.Prelude.{List, ℕ, ◌+◌, ◌*◌}
 use Rattle.octets.specs.Runs.{zeros}
 use Rattle.model.specs.Edition.{Edition}
-use Rattle.model.specs.Calls.{Checked, Got, Changed, check_outcome, get_outcome, put_outcome, delete_outcome}
+use Rattle.model.specs.Calls.{check_outcome, get_outcome, put_outcome, delete_outcome}
 
 -- the number that is returned, and the buffer that the call may write
 pub record Returned : Type 0 where

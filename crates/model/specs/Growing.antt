@@ -1,5 +1,5 @@
 -- Rules of change: inner split and new root, going up from a node that split. Each takes the first free page.
-use Rattle.std.specs.Prelude.{Bool, true, false, ℕ, suc, ◌+◌, length, take, drop, leb}
+use Rattle.std.specs.Prelude.{ℕ, suc, ◌+◌, length, take, drop, leb}
 use mathlib.Core.List.{List, [], ◌∷◌, tail}
 use Rattle.octets.specs.Choice.{choose}
 use Rattle.model.specs.Lists.{head_or}

@@ -1,5 +1,5 @@
 -- The image of a store: the page of each node, chain and free page, and the pages in the order of their numbers.
-use Rattle.std.specs.Prelude.{Bool, true, false, List, [], ◌∷◌, ◌++◌, map, ℕ, zero, suc, length, take, drop, leb, eqb}
+use Rattle.std.specs.Prelude.{List, [], ◌∷◌, ◌++◌, map, ℕ, zero, suc, length, take, drop, leb, eqb}
 use Rattle.octets.specs.Choice.{choose}
 use Rattle.octets.specs.Runs.{zeros}
 use Rattle.octets.specs.Numbers.{bytes16}
@@ -7,7 +7,7 @@ use Rattle.model.specs.Lists.{gather, head_or, from}
 use Rattle.model.specs.Edition.{Edition}
 use Rattle.model.specs.Types.{Cell, Leaf, Sep, Inner, Tree, Store, page_of, to_map}
 use Rattle.model.specs.Sizes.{inline_most, payload}
-use Rattle.model.specs.Layouts.{HeadPage, LeafPage, Placed, InnerPage, OverPage, to_head, to_free, to_leaf, to_inner, to_over}
+use Rattle.model.specs.Layouts.{HeadPage, LeafPage, Placed, InnerPage, to_head, to_free, to_leaf, to_inner, to_over}
 
 -- a page with its number
 pub record Page : Type 0 where

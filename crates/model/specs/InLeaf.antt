@@ -1,5 +1,5 @@
 -- Rules of change: in a leaf, and the rule by which a leaf's cells are split.
-use Rattle.std.specs.Prelude.{Bool, true, false, List, [], ◌∷◌, ℕ, suc, ◌+◌, ◌*◌, ◌-◌, length, take, drop, leb, ltb}
+use Rattle.std.specs.Prelude.{List, [], ◌∷◌, ℕ, suc, ◌+◌, ◌*◌, ◌-◌, length, take, drop, leb, ltb}
 use Rattle.octets.specs.Choice.{choose}
 use Rattle.octets.specs.Keys.{compare_keys, three}
 use Rattle.model.specs.Lists.{total}

@@ -1,6 +1,6 @@
 -- Page layouts: each kind of page as a value, with its bytes (to..) and its reading (of..). Neither needs another page.
 -- The bytes are those of the usable length L. A reading is total: of any bytes it makes some page.
-use Rattle.std.specs.Prelude.{Bool, true, false, List, [], ◌∷◌, ◌++◌, map, ℕ, zero, suc, ◌+◌, ◌*◌, ◌-◌, ◌/◌, min, length, get_or, take, drop, leb}
+use Rattle.std.specs.Prelude.{List, [], ◌∷◌, ◌++◌, map, ℕ, ◌+◌, ◌*◌, ◌-◌, ◌/◌, min, length, get_or, drop, leb}
 use Rattle.octets.specs.Choice.{choose}
 use Rattle.octets.specs.Runs.{over, part, zeros}
 use Rattle.octets.specs.Numbers.{word16, word32, bytes16, bytes32}

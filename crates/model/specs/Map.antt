@@ -1,5 +1,5 @@
 -- The map: entries with strictly rising keys, and what the calls do to it.
-use Rattle.std.specs.Prelude.{Bool, true, false, not, ◌&&◌, List, [], ◌∷◌, ℕ}
+use Rattle.std.specs.Prelude.{Bool, true, not, ◌&&◌, List, [], ◌∷◌, ℕ}
 use Rattle.std.proofs.Math.Option.{Option, none, some}
 use Rattle.octets.specs.Choice.{choose}
 use Rattle.octets.specs.Keys.{compare_keys, three, before}

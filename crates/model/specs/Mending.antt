@@ -1,5 +1,5 @@
 -- Rules of change: mending, and the root that goes.
-use Rattle.std.specs.Prelude.{Bool, true, false, List, [], ◌∷◌, ◌++◌, ℕ, suc, ◌+◌, length, leb, ltb}
+use Rattle.std.specs.Prelude.{List, [], ◌∷◌, ◌++◌, ℕ, suc, ◌+◌, length, leb, ltb}
 use Rattle.octets.specs.Choice.{choose}
 use Rattle.model.specs.Types.{Leaf, Sep, Inner, Tree, Store}
 use Rattle.model.specs.Sizes.{leaf_least, leaf_most, inner_least, inner_most, costs}

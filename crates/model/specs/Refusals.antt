@@ -1,5 +1,5 @@
 -- The refusal table: the numbers, the order of the tests, and what the work area holds afterwards.
-use Rattle.std.specs.Prelude.{Bool, true, false, not, ◌&&◌, ◌||◌, List, [], ◌∷◌, ◌++◌, map, ℕ, ◌*◌, ◌/◌, length, drop, ltb, eqb}
+use Rattle.std.specs.Prelude.{Bool, not, ◌&&◌, List, [], ◌∷◌, ◌++◌, map, ℕ, ◌*◌, ◌/◌, length, drop, ltb, eqb}
 use Rattle.octets.specs.Choice.{choose}
 use Rattle.octets.specs.Runs.{zeros}
 use Rattle.model.specs.Lists.{from}

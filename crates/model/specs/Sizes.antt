@@ -1,5 +1,5 @@
 -- Sizes and costs. What depends on a page's length is over its usable length L.
-use Rattle.std.specs.Prelude.{Bool, true, false, List, ℕ, ◌+◌, ◌*◌, ◌-◌, ◌/◌, length, leb}
+use Rattle.std.specs.Prelude.{List, ℕ, ◌+◌, ◌*◌, ◌-◌, ◌/◌, length, leb}
 use Rattle.octets.specs.Choice.{choose}
 use Rattle.model.specs.Lists.{total}
 use Rattle.model.specs.Types.{Cell}

@@ -1,6 +1,6 @@
 -- Laws of a flag that says whether something holds, and of the loops that make one.
 use mathlib.Core.Path.{◌≡◌, refl}
-use mathlib.Core.Bool.{Bool, true, false, true≢false, false≢true}
+use mathlib.Core.Bool.{Bool, true, false, false≢true}
 use mathlib.Core.List.{List}
 use Prim.Native.Nat.{ℕ, ◌+◌, ◌≤◌, ◌<◌}
 use native.Mathlib.Omega.{arith}
@@ -10,7 +10,7 @@ use lib.ListN.{length, get_or}
 use lib.Seq.{ext_get_or}
 use Rattle.octets.specs.Runs.{zeros}
 use Rattle.octets.specs.Says.{Says}
-use Rattle.octets.proofs.Over.{length-zeros, get_d_zeros}
+use Rattle.octets.proofs.Over.{length-zeros, get_or-zeros}
 
 -- A flag ------------------------------------------------------------------------------------------------------------------
 -- It says yes of what holds, no of what does not, and of anything that goes with what it says.
@@ -69,11 +69,11 @@ seen_more b i seen s =
 pub all_zero : (b : List ℕ) (n : ℕ) → length b ≡ n → ((j : ℕ) → j < n → get_or b j 0 ≡ 0) → b ≡ zeros (length b)
 all_zero b n e f =
     ext_get_or 0 b (zeros (length b)) (let z = length-zeros (length b) in omega arith)
-    (λ j h. let x : get_or b j 0 ≡ 0 = f j (omega arith) in let y = get_d_zeros (length b) j in cc)
+    (λ j h. let x : get_or b j 0 ≡ 0 = f j (omega arith) in let y = get_or-zeros (length b) j in cc)
 
 pub seen_blank : (b : List ℕ) (i seen : ℕ) → Seen b i seen → i ≤ length b → length b ≤ i → seen ≡ 0 → Says true (b ≡ zeros (length b))
 seen_blank b i seen s h k e = says_yes (all_zero b i (omega arith) (s.sound e))
 
 pub seen-not : (b : List ℕ) (i seen : ℕ) → Seen b i seen → i ≤ length b → (seen ≡ 0 → ⊥) → Says false (b ≡ zeros (length b))
 seen-not b i seen s h n =
-    says_no (λ e. n (s.whole (λ j w. let x : get_or b j 0 ≡ get_or (zeros (length b)) j 0 = rw (← e) in let y = get_d_zeros (length b) j in cc)))
+    says_no (λ e. n (s.whole (λ j w. let x : get_or b j 0 ≡ get_or (zeros (length b)) j 0 = rw (← e) in let y = get_or-zeros (length b) j in cc)))

@@ -35,22 +35,22 @@ over-store (y ∷ l) zero x s = refl
 -- A byte ----------------------------------------------------------------------------------------------------------------
 -- A byte beside the run is as it was, and a byte within it is the run's.
 
-pub get_d_over_out : (l : List ℕ) (at : ℕ) (s : List ℕ) (i : ℕ) → (i < at) ⊎ (at + length s ≤ i) → get_or (over l at s) i 0 ≡ get_or l i 0
-get_d_over_out l at [] i h = rw over_none
-get_d_over_out l at (x ∷ s) i h =
+pub get_or-over_out : (l : List ℕ) (at : ℕ) (s : List ℕ) (i : ℕ) → (i < at) ⊎ (at + length s ≤ i) → get_or (over l at s) i 0 ≡ get_or l i 0
+get_or-over_out l at [] i h = rw over_none
+get_or-over_out l at (x ∷ s) i h =
     let n : i ≡ at → ⊥ = ⊎_elim (λ p. omega arith) (λ p. omega arith) h in
-    rw over-store (get_d_over_out (set l at x) (suc at) s i (⊎_elim (λ p. inl (omega arith)) (λ p. inr (omega arith)) h)
+    rw over-store (get_or-over_out (set l at x) (suc at) s i (⊎_elim (λ p. inl (omega arith)) (λ p. inr (omega arith)) h)
     ∙ get_or-set_other l at i x 0 n)
 
-pub get_d_over_in : (l : List ℕ) (at : ℕ) (s : List ℕ) (i : ℕ) → at + length s ≤ length l → i < length s
+pub get_or-over_in : (l : List ℕ) (at : ℕ) (s : List ℕ) (i : ℕ) → at + length s ≤ length l → i < length s
     → get_or (over l at s) (at + i) 0 ≡ get_or s i 0
-get_d_over_in l at [] i h p = absurd (omega arith)
-get_d_over_in l at (x ∷ s) zero h p =
-    rw (over-store, add-zero) (get_d_over_out (set l at x) (suc at) s at (inl (omega arith)) ∙ get_or-set_same l at x 0 (omega arith))
-get_d_over_in l at (x ∷ s) (suc i) h p =
+get_or-over_in l at [] i h p = absurd (omega arith)
+get_or-over_in l at (x ∷ s) zero h p =
+    rw (over-store, add-zero) (get_or-over_out (set l at x) (suc at) s at (inl (omega arith)) ∙ get_or-set_same l at x 0 (omega arith))
+get_or-over_in l at (x ∷ s) (suc i) h p =
     let e : at + suc i ≡ suc at + i = omega arith in
     let k : length (set l at x) ≡ length l = length-set l at x in
-    rw (over-store, e) (get_d_over_in (set l at x) (suc at) s i (omega arith) (omega arith))
+    rw (over-store, e) (get_or-over_in (set l at x) (suc at) s i (omega arith) (omega arith))
 
 -- A store ---------------------------------------------------------------------------------------------------------------
 -- A store beside the run can come before it, and a store within it changes the run.
@@ -155,11 +155,11 @@ pub length-zeros : (n : ℕ) → length (zeros n) ≡ n
 unfolding zeros
 length-zeros n = length-replicate n 0
 
-pub get_d_zeros : (n i : ℕ) → get_or (zeros n) i 0 ≡ 0
+pub get_or-zeros : (n i : ℕ) → get_or (zeros n) i 0 ≡ 0
 unfolding zeros
-get_d_zeros zero i = refl
-get_d_zeros (suc n) zero = refl
-get_d_zeros (suc n) (suc i) = get_d_zeros n i
+get_or-zeros zero i = refl
+get_or-zeros (suc n) zero = refl
+get_or-zeros (suc n) (suc i) = get_or-zeros n i
 
 pub zeros-append : (m n : ℕ) → zeros m ++ zeros n ≡ zeros (m + n)
 unfolding zeros
@@ -168,4 +168,4 @@ zeros-append m n = replicate-append-replicate m n 0
 pub over_zeros : (l : List ℕ) (at n : ℕ) → ((i : ℕ) → i < n → get_or l (at + i) 0 ≡ 0) → over l at (zeros n) ≡ l
 over_zeros l at n f =
     let k : length (zeros n) ≡ n = length-zeros n in
-    over-same l at (zeros n) (λ i w. get_d_zeros n i ∙ sym (f i (omega arith)))
+    over-same l at (zeros n) (λ i w. get_or-zeros n i ∙ sym (f i (omega arith)))

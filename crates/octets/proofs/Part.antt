@@ -8,7 +8,7 @@ use native.Mathlib.Omega.{arith}
 use lib.ListN.{length, drop, get_or, length-append, length-take, length-drop, get_or-append}
 use lib.Seq.{get_or-take, get_or-drop, ext_get_or, take-length, take_at, take-add, drop-drop, drop-append-add}
 use Rattle.octets.specs.Runs.{over, part, zeros}
-use Rattle.octets.proofs.Over.{length_over, get_d_over_out, get_d_over_in, over-inside, over-same, length-zeros, get_d_zeros}
+use Rattle.octets.proofs.Over.{length_over, get_or-over_out, get_or-over_in, over-inside, over-same, length-zeros, get_or-zeros}
 
 -- One part --------------------------------------------------------------------------------------------------------------
 -- A part has the length asked for and the bytes that stand there, and these determine it.
@@ -71,7 +71,7 @@ part-zeros m at n h =
     let k : length (zeros m) ≡ m = length-zeros m in
     let p : length (part (zeros m) at n) ≡ n = part_length (zeros m) at n (omega arith) in
     ext_get_or 0 (part (zeros m) at n) (zeros n) (p ∙ sym (length-zeros n))
-    (λ i w. part_at (zeros m) at n i (omega arith) ∙ get_d_zeros m (at + i) ∙ sym (get_d_zeros n i))
+    (λ i w. part_at (zeros m) at n i (omega arith) ∙ get_or-zeros m (at + i) ∙ sym (get_or-zeros n i))
 
 -- A part and a write ----------------------------------------------------------------------------------------------------
 -- A part apart from the write is as it was, and one within it is the run's.
@@ -81,14 +81,14 @@ pub part-over-out : (l : List ℕ) (at : ℕ) (s : List ℕ) (j n : ℕ) → j +
 part-over-out l at s j n h a =
     let e : length (over l at s) ≡ length l = length_over l at s in
     part_ext (over l at s) l j j n (omega arith) h
-    (λ i w. get_d_over_out l at s (j + i) (⊎_elim (λ p. inl (omega arith)) (λ p. inr (omega arith)) a))
+    (λ i w. get_or-over_out l at s (j + i) (⊎_elim (λ p. inl (omega arith)) (λ p. inr (omega arith)) a))
 
 pub part-over_in : (l : List ℕ) (at : ℕ) (s : List ℕ) (j n : ℕ) → at + length s ≤ length l → j + n ≤ length s
     → part (over l at s) (at + j) n ≡ part s j n
 part-over_in l at s j n h k =
     let e : length (over l at s) ≡ length l = length_over l at s in
     part_ext (over l at s) s (at + j) j n (omega arith) k
-    (λ i w. let v : at + j + i ≡ at + (j + i) = omega arith in rw v (get_d_over_in l at s (j + i) h (omega arith)))
+    (λ i w. let v : at + j + i ≡ at + (j + i) = omega arith in rw v (get_or-over_in l at s (j + i) h (omega arith)))
 
 pub part-here : (l : List ℕ) (at : ℕ) (s : List ℕ) → at + length s ≤ length l → part (over l at s) at (length s) ≡ s
 part-here l at s h = (rw add-zero at (part-over_in l at s 0 (length s) h (omega arith))) ∙ part-all s

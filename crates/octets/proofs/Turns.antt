@@ -9,7 +9,7 @@ use native.Mathlib.Omega.{arith}
 use lib.ListN.{length, take, drop, get_or, set, length-take, length-drop, drop_of_length-le, replicate-append-replicate}
 use lib.Seq.{take-suc, drop-cons, get_or-drop}
 use Rattle.octets.specs.Runs.{over, part, zeros}
-use Rattle.octets.proofs.Over.{length-zeros, set-over, over_none, over-store, over-append, get_d_over_out}
+use Rattle.octets.proofs.Over.{length-zeros, set-over, over_none, over-store, over-append, get_or-over_out}
 use Rattle.octets.proofs.Part.{part_length, part_at}
 
 -- Upwards ---------------------------------------------------------------------------------------------------------------
@@ -48,7 +48,7 @@ pub down_turn : (l : List ℕ) (to from i : ℕ) (b : List ℕ) → b ≡ over l
     → set b (to + i) (get_or b (from + i) 0) ≡ over l to (part l from (i + 1))
 down_turn l to from i b e h r =
     let k : length (part l from i) ≡ i = part_length l from i (omega arith) in
-    let o = get_d_over_out l to (part l from i) (from + i) (inr (omega arith)) in
+    let o = get_or-over_out l to (part l from i) (from + i) (inr (omega arith)) in
     let x : get_or b (from + i) 0 ≡ get_or l (from + i) 0 = rw e o in
     rw x (turn_up l to (part l from i) _ b (to + i) _ e (omega arith) (part-more l from i (omega arith)))
 
@@ -80,7 +80,7 @@ unfolding upped
 up_turn l to from n j i b e f h r p =
     let k : length (part l from n) ≡ n = part_length l from n r in
     let m : suc i ≡ j = omega arith in
-    let o = get_d_over_out l (to + j) (drop j (part l from n)) (from + i) (inl (omega arith)) in
+    let o = get_or-over_out l (to + j) (drop j (part l from n)) (from + i) (inl (omega arith)) in
     let x : get_or b (from + i) 0 ≡ get_or (part l from n) i 0 = rw e (o ∙ sym (part_at l from n i p)) in
     rw (x, drop-cons (part l from n) i 0 (omega arith), m) (turn_down l (to + j) _ b (to + i) _ e (omega arith))
 

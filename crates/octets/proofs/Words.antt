@@ -10,7 +10,7 @@ use lib.ListN.{length, get_or, set, get_or-append}
 use lib.Seq.{drop-cons, get_or-append-add}
 use Rattle.octets.specs.Numbers.{word16, word32, bytes16, bytes32}
 use Rattle.octets.specs.Runs.{over, part}
-use Rattle.octets.proofs.Over.{over_none, over-store, get_d_over_out, get_d_over_in}
+use Rattle.octets.proofs.Over.{over_none, over-store, get_or-over_out, get_or-over_in}
 use Rattle.octets.proofs.Part.{part_at, part-add, over-part}
 
 -- Written ---------------------------------------------------------------------------------------------------------------
@@ -47,19 +47,19 @@ word32_ext l m i j f =
 
 pub word16-over-out : (l : List ℕ) (at : ℕ) (s : List ℕ) (j : ℕ) → (j + 2 ≤ at) ⊎ (at + length s ≤ j) → word16 (over l at s) j ≡ word16 l j
 word16-over-out l at s j a =
-    word16_ext _ _ j j (λ k p. get_d_over_out l at s (j + k) (⊎_elim (λ h. inl (omega arith)) (λ h. inr (omega arith)) a))
+    word16_ext _ _ j j (λ k p. get_or-over_out l at s (j + k) (⊎_elim (λ h. inl (omega arith)) (λ h. inr (omega arith)) a))
 
 pub word32-over-out : (l : List ℕ) (at : ℕ) (s : List ℕ) (j : ℕ) → (j + 4 ≤ at) ⊎ (at + length s ≤ j) → word32 (over l at s) j ≡ word32 l j
 word32-over-out l at s j a =
-    word32_ext _ _ j j (λ k p. get_d_over_out l at s (j + k) (⊎_elim (λ h. inl (omega arith)) (λ h. inr (omega arith)) a))
+    word32_ext _ _ j j (λ k p. get_or-over_out l at s (j + k) (⊎_elim (λ h. inl (omega arith)) (λ h. inr (omega arith)) a))
 
 pub word16-over_in : (l : List ℕ) (at : ℕ) (s : List ℕ) (j : ℕ) → at + length s ≤ length l → j + 2 ≤ length s
     → word16 (over l at s) (at + j) ≡ word16 s j
-word16-over_in l at s j h w = word16_ext _ _ (at + j) j (λ k p. rw add_assoc (get_d_over_in l at s (j + k) h (omega arith)))
+word16-over_in l at s j h w = word16_ext _ _ (at + j) j (λ k p. rw add_assoc (get_or-over_in l at s (j + k) h (omega arith)))
 
 pub word32-over_in : (l : List ℕ) (at : ℕ) (s : List ℕ) (j : ℕ) → at + length s ≤ length l → j + 4 ≤ length s
     → word32 (over l at s) (at + j) ≡ word32 s j
-word32-over_in l at s j h w = word32_ext _ _ (at + j) j (λ k p. rw add_assoc (get_d_over_in l at s (j + k) h (omega arith)))
+word32-over_in l at s j h w = word32_ext _ _ (at + j) j (λ k p. rw add_assoc (get_or-over_in l at s (j + k) h (omega arith)))
 
 pub word16-part : (l : List ℕ) (at n j : ℕ) → j + 2 ≤ n → word16 (part l at n) j ≡ word16 l (at + j)
 word16-part l at n j h = word16_ext _ _ j (at + j) (λ k p. rw add_assoc (part_at l at n (j + k) (omega arith)))

@@ -10,7 +10,7 @@ use Rattle.octets.specs.Says.{Says}
 use Rattle.octets.specs.Runs.{over, part, zeros}
 use Rattle.octets.specs.Numbers.{word16, bytes16, bytes32}
 use Rattle.octets.proofs.Flags.{says_map}
-use Rattle.octets.proofs.Over.{length-zeros, get_d_zeros, over-all, over-append, over_zeros}
+use Rattle.octets.proofs.Over.{length-zeros, get_or-zeros, over-all, over-append, over_zeros}
 use Rattle.octets.proofs.Part.{part-add, part_at, part_length}
 use Rattle.model.specs.Lists.{pad}
 use Rattle.model.specs.Layouts.{HeadPage, to_head, of_head, to_free, of_free, to_over, of_over}
@@ -85,7 +85,7 @@ pub free-written : (p z q : List ℕ) (next : ℕ) → 4 ≤ length p → z ≡ 
 free-written p z q next h e f =
     let n = length-zeros (length p) in
     let c : z ≡ zeros (length p) = e ∙ over-all p (zeros (length p)) n in
-    let b : over z 0 (0 ∷ 0 ∷ []) ≡ z = rw (c, ← two-zeros) (over_zeros (zeros (length p)) 0 2 (λ i w. get_d_zeros (length p) (0 + i))) in
+    let b : over z 0 (0 ∷ 0 ∷ []) ≡ z = rw (c, ← two-zeros) (over_zeros (zeros (length p)) 0 2 (λ i w. get_or-zeros (length p) (0 + i))) in
     let k : over z 0 (free_bytes next) ≡ over z 2 (bytes16 next) = free-over z next ∙ rw b in
     f ∙ (sym k ∙ (rw e (clear-over p (free_bytes next) (length p) refl (omega (arith, free-length next))) ∙ sym (to_free_lem (length p) next)))
 

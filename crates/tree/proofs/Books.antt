@@ -1,6 +1,6 @@
 -- An image is a book of pages: page p is the part at p times 512, and a page that is written leaves the others as they were.
-use mathlib.Core.Path.{◌≡◌, refl, sym, ap, ◌∙◌}
-use mathlib.Core.List.{List, [], ◌∷◌, ◌++◌, append_assoc}
+use mathlib.Core.Path.{◌≡◌, sym, ap, ◌∙◌}
+use mathlib.Core.List.{List, [], append_assoc}
 use mathlib.Core.Logic.{◌⊎◌, inl, inr, ⊎_elim}
 use Prim.Native.Nat.{ℕ, ◌+◌, ◌-◌, ◌*◌, ◌/◌, ◌≤◌, ◌<◌}
 use native.Mathlib.Nat.{mul-div_cancel}
@@ -9,19 +9,19 @@ use native.Mathlib.Omega.{arith}
 use borrow.Rule.Slice.PartMut.{put_mid}
 use lib.ListN.{length, get_or, take, drop}
 use lib.Seq.{drop-drop}
-use Rattle.octets.specs.Runs.{over, part}
+use Rattle.octets.specs.Runs.{part}
 use Rattle.octets.proofs.Over.{length_over, over-comm, over-over, over_eq}
 use Rattle.octets.proofs.Part.{part_length, part-stands, part-over-out}
 use Rattle.model.specs.Edition.{edition1}
 use Rattle.model.proofs.Editions.{lawful1}
-use Rattle.laws_image.proofs.ByPages.{get_d_open_pages}
+use Rattle.laws_image.proofs.ByPages.{get_or-open_pages}
 use Rattle.tree.specs.Book.{page_at, set_page, pages_of, Sized}
 
 pub pages_of-page : (image : List ℕ) (n p : ℕ) → length image ≡ n * 512 → p < n → get_or (pages_of image n) p [] ≡ page_at image p
 unfolding pages_of page_at
 pages_of-page image n p e h =
     let q : length image / 512 ≡ n = rw e (mul-div_cancel n (omega arith)) in
-    rw q at (get_d_open_pages edition1 lawful1 image p (rw q h))
+    rw q at (get_or-open_pages edition1 lawful1 image p (rw q h))
 
 pub length-page_at : (image : List ℕ) (p : ℕ) → p * 512 + 512 ≤ length image → length (page_at image p) ≡ 512
 unfolding page_at

@@ -1,18 +1,17 @@
 -- A page of a chain is met, is an overflow page by itself and holds what it should: each test of the code is a test of the walk.
 use mathlib.Core.Path.{◌≡◌, refl, sym, ap, subst, ◌∙◌}
 use mathlib.Core.Bool.{Bool, true, false, ◌&&◌, and-eq-true_iff, false≢true}
-use mathlib.Core.List.{List, [], ◌∷◌}
+use mathlib.Core.List.{List, []}
 use mathlib.Core.Option.{Option, none, some}
-use Prim.Native.Nat.{ℕ, ◌+◌, ◌-◌, ◌*◌, ◌≤◌, ◌<◌}
+use Prim.Native.Nat.{ℕ, ◌-◌, ◌≤◌, ◌<◌}
 use native.Mathlib.Omega.{arith}
 use lib.ListN.{length, get_or, set}
 use lib.Dec.{leb, eqb}
-use borrow.Author.Tests.{eq-eqb, ne_eqb, le-leb, leb-true, eqb-true}
+use borrow.Author.Tests.{eq-eqb, ne_eqb, le-leb, leb-true}
 use Rattle.octets.specs.Says.{Says}
 use Rattle.octets.specs.Numbers.{word16}
-use Rattle.octets.proofs.Flags.{says_map}
 use Rattle.model.specs.Lists.{same}
-use Rattle.model.specs.Layouts.{OverPage, to_over, of_over, to_free, of_free}
+use Rattle.model.specs.Layouts.{to_over, of_over, to_free, of_free}
 use Rattle.model.specs.Accept.{between}
 use Rattle.checking.specs.Alone.{over_alone, free_alone}
 use Rattle.checking.specs.Steps.{and_then, when}
@@ -20,7 +19,7 @@ use Rattle.checking.specs.Walk.{meet, link_walk}
 use Rattle.page.specs.Overflow.{OverBytes}
 use Rattle.page.specs.Free.{FreeBytes}
 use Rattle.tree.specs.Book.{page_at, pages_of, Sized}
-use Rattle.tree.specs.Work.{said, Keeps}
+use Rattle.tree.specs.Work.{said}
 use Rattle.tree.proofs.Books.{pages_of-page, length-page_at}
 use Rattle.model.proofs.Lists.{same_refl, same_eq}
 

@@ -1,8 +1,7 @@
 -- The work area: a page is marked where it is new, entries from n on stay, and entries are cleared and tested one after another.
 use mathlib.Core.Path.{◌≡◌, refl, sym, ap, ◌∙◌}
-use mathlib.Core.Bool.{Bool, true, false, not, ◌&&◌}
-use mathlib.Core.List.{List, [], ◌∷◌, ◌++◌, append-nil}
-use mathlib.Core.Option.{Option, none, some}
+use mathlib.Core.Bool.{true, false, not}
+use mathlib.Core.List.{List, [], ◌∷◌}
 use Prim.Native.Nat.{ℕ, zero, suc, ◌+◌, ◌-◌, ◌≤◌, ◌<◌}
 use native.Mathlib.Nat.{zero-add}
 use native.Mathlib.Numerals.{add-one}
@@ -12,7 +11,7 @@ use lib.Seq.{take-suc, drop-cons}
 use lib.Dec.{leb, eqb}
 use borrow.Author.Tests.{le-leb, lt-leb, eq-eqb, ne_eqb}
 use Rattle.octets.specs.Runs.{over, zeros}
-use Rattle.octets.proofs.Over.{length_over, length-zeros, over_none, over-front}
+use Rattle.octets.proofs.Over.{length-zeros, over-front}
 use Rattle.octets.proofs.Turns.{zeros_turn}
 use Rattle.model.specs.Lists.{every}
 use Rattle.model.specs.Accept.{between}

@@ -1,5 +1,4 @@
 -- Any reference is some free page's, so the first two bytes and the rest decide.
-use borrow.Author.Rules.{rules}
 use Rattle.octets.specs.Runs.{part}
 use Rattle.octets.proofs.Flags.{says_no}
 use Rattle.page.proofs.ByItself.{free-front, free-says}

@@ -1,5 +1,4 @@
 -- The reference stands at its offset.
-use borrow.Author.Rules.{rules}
 use Rattle.model.specs.Layouts.{of_free}
 use Rattle.page.proofs.free.next.Goals as goal
 

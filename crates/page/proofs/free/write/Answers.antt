@@ -1,5 +1,4 @@
 -- Behind the cleared page's first two zeros stands the reference.
-use borrow.Author.Rules.{rules}
 use Rattle.page.proofs.ByItself.{free-written}
 use Rattle.page.proofs.free.write.Goals as goal
 

@@ -1,5 +1,4 @@
 -- The bytes are those of the numbers, one after another.
-use borrow.Author.Rules.{rules}
 use mathlib.Core.Path.{refl}
 use Rattle.octets.specs.Numbers.{bytes16, bytes32}
 use Rattle.page.specs.Header.{front_of}

@@ -1,5 +1,4 @@
 -- Any fourteen bytes are some header's, so the rest decides.
-use borrow.Author.Rules.{rules}
 use Rattle.octets.specs.Runs.{part}
 use Rattle.page.proofs.ByItself.{head-says}
 use Rattle.page.proofs.header.is_header.Goals as goal

@@ -1,5 +1,4 @@
 -- Each field is the number that stands at its offset.
-use borrow.Author.Rules.{rules}
 use Rattle.model.specs.Layouts.{of_head}
 use Rattle.page.specs.Header.{head_of}
 use Rattle.page.proofs.header.read.Goals as goal

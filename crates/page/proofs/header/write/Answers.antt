@@ -1,5 +1,4 @@
 -- The first fourteen bytes are written anew, and behind them a header has zeros already.
-use borrow.Author.Rules.{rules}
 use Rattle.page.proofs.ByItself.{head-written}
 use Rattle.page.proofs.header.write.Goals as goal
 

@@ -1,5 +1,4 @@
 -- The records are copied behind the last, and the counts are added.
-use borrow.Author.Rules.{rules}
 use mathlib.Core.Path.{◌≡◌, ◌∙◌}
 use Prim.Native.Nat.{◌+◌, ◌-◌, ◌*◌}
 use native.Mathlib.Omega.{arith}

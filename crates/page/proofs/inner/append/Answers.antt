@@ -1,5 +1,4 @@
 -- What the bytes become is the page with the other's records behind its own.
-use borrow.Author.Rules.{rules}
 use Rattle.page.proofs.InnerChanges.{add_is}
 use Rattle.page.proofs.inner.append.Goals as goal
 

@@ -1,11 +1,10 @@
 -- Each turn tests one record against the key of the one before.
 use borrow.Author.Rules.{rules}
-use mathlib.Core.Path.{◌≡◌, refl}
-use Prim.Native.Nat.{◌-◌, ◌≤◌}
+use mathlib.Core.Path.{refl}
 use native.Mathlib.Omega.{arith}
 use borrow.Author.Count.{below_none}
 use Rattle.octets.proofs.Flags.{says_yes}
-use Rattle.page.specs.Inner.{key_before, AllRanked}
+use Rattle.page.specs.Inner.{key_before}
 use Rattle.page.proofs.InnerTested.{one-stops, one_inside, above-stops, above_on, key-on}
 use Rattle.page.proofs.inner.are_records.Goals as goal
 

@@ -1,5 +1,4 @@
 -- The first child and each record's stand at their offsets.
-use borrow.Author.Rules.{rules}
 use Rattle.page.proofs.InnerPages.{child-first, child-later}
 use Rattle.page.proofs.inner.child.Goals as goal
 

@@ -1,5 +1,4 @@
 -- The records move down, the last one's place is cleared, and the count goes down by one.
-use borrow.Author.Rules.{rules}
 use Rattle.page.specs.Inner.{cut_at}
 use Rattle.page.proofs.inner.cut_record.Goals as goal
 

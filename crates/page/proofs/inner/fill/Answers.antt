@@ -1,5 +1,4 @@
 -- Over a cleared page stand the front and, right behind it, the records.
-use borrow.Author.Rules.{rules}
 use Rattle.octets.specs.Runs.{part}
 use Rattle.page.proofs.InnerChanges.{fill_is}
 use Rattle.page.proofs.inner.fill.Goals as goal

@@ -1,5 +1,4 @@
 -- The bytes are those of the layout, one after another.
-use borrow.Author.Rules.{rules}
 use mathlib.Core.Path.{refl}
 use Rattle.octets.specs.Runs.{zeros}
 use Rattle.octets.specs.Numbers.{bytes16}

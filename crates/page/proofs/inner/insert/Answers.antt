@@ -1,5 +1,4 @@
 -- What the bytes become is the page with one record more.
-use borrow.Author.Rules.{rules}
 use Rattle.page.proofs.InnerChanges.{put_is}
 use Rattle.page.proofs.inner.insert.Goals as goal
 

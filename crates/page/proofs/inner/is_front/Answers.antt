@@ -1,5 +1,4 @@
 -- The bytes of the two numbers are any, so the first byte and those that are zero for good decide.
-use borrow.Author.Rules.{rules}
 use Rattle.octets.proofs.Flags.{says_yes, says_no}
 use Rattle.page.proofs.InnerTested.{front_yes, front_kind, front-zeros}
 use Rattle.page.proofs.inner.is_front.Goals as goal

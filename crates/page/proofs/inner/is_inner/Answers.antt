@@ -1,5 +1,4 @@
 -- The page is its own re-encoding exactly if its front and its records are and zeros stand behind them.
-use borrow.Author.Rules.{rules}
 use native.Mathlib.Omega.{arith}
 use Rattle.octets.specs.Runs.{part}
 use Rattle.octets.proofs.Flags.{says_no, says-false}

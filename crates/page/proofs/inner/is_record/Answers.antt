@@ -1,5 +1,4 @@
 -- Any child and key are some record's, so the key's length and what stands behind the key decide.
-use borrow.Author.Rules.{rules}
 use native.Mathlib.Omega.{arith}
 use Rattle.octets.specs.Runs.{part}
 use Rattle.octets.proofs.Flags.{says_no}

@@ -1,5 +1,4 @@
 -- A byte is below 256.
-use borrow.Author.Rules.{rules}
 use mathlib.Core.Path.{refl}
 use native.Mathlib.Omega.{arith}
 use Rattle.page.proofs.inner.length_at.Goals as goal

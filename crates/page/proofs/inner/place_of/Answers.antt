@@ -1,8 +1,7 @@
 -- The search passes one separator at a time, so what is left of it starts at the next.
-use Prim.Native.Nat.{◌-◌, ◌≤◌}
 use native.Mathlib.Omega.{arith}
 use borrow.Author.Rules.{rules}
-use Rattle.page.proofs.InnerPages.{Sought, sought-start, sought_end, sought-here, sought-on, key-inside}
+use Rattle.page.proofs.InnerPages.{sought-start, sought_end, sought-here, sought-on, key-inside}
 use Rattle.page.proofs.inner.place_of.Goals as goal
 
 pub count-c-requires : goal.count-c-requires

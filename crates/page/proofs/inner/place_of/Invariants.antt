@@ -1,8 +1,6 @@
 -- The search passes one separator at a time, so what is left of it starts at the next.
 use Prim.Native.Nat.{◌-◌, ◌≤◌}
-use native.Mathlib.Omega.{arith}
-use borrow.Author.Rules.{rules}
-use Rattle.page.proofs.InnerPages.{Sought, sought-start, sought_end, sought-here, sought-on, key-inside}
+use Rattle.page.proofs.InnerPages.{Sought}
 use Rattle.page.proofs.inner.place_of.Given as goal
 
 abbrev pub invariant-loop-i : goal.invariant-loop-i

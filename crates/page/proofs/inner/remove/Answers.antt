@@ -1,5 +1,4 @@
 -- What the bytes become is the page without the record.
-use borrow.Author.Rules.{rules}
 use Rattle.page.proofs.InnerChanges.{cut-is}
 use Rattle.page.proofs.inner.remove.Goals as goal
 

@@ -1,5 +1,4 @@
 -- Another record's bytes stand where the record's stood.
-use borrow.Author.Rules.{rules}
 use Rattle.page.proofs.InnerChanges.{replace_is}
 use Rattle.page.proofs.inner.replace.Goals as goal
 

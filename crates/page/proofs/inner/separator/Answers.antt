@@ -1,5 +1,4 @@
 -- The part begins behind the record's three first bytes and is as long as the first says.
-use borrow.Author.Rules.{rules}
 use Rattle.octets.specs.Runs.{part}
 use Rattle.page.proofs.InnerPages.{key-part}
 use Rattle.page.proofs.inner.separator.Goals as goal

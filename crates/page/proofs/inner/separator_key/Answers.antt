@@ -1,5 +1,4 @@
 -- The 32 bytes behind the record's three first are copied whole.
-use borrow.Author.Rules.{rules}
 use Rattle.octets.specs.Runs.{part}
 use Rattle.page.proofs.InnerPages.{key-value}
 use Rattle.page.proofs.inner.separator_key.Goals as goal

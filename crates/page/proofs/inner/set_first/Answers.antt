@@ -1,5 +1,4 @@
 -- The first child stands at its offset, and nothing else changes.
-use borrow.Author.Rules.{rules}
 use Rattle.page.proofs.InnerChanges.{first-set}
 use Rattle.page.proofs.inner.set_first.Goals as goal
 

@@ -1,5 +1,4 @@
 -- The part ends as many bytes behind offset 8 as the page says.
-use borrow.Author.Rules.{rules}
 use mathlib.Core.Path.{◌≡◌}
 use Prim.Native.Nat.{◌+◌, ◌-◌}
 use native.Mathlib.Omega.{arith}

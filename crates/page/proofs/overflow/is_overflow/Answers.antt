@@ -1,5 +1,4 @@
 -- Any reference, count and payload are some overflow page's, so the fixed bytes, the room and the rest decide.
-use borrow.Author.Rules.{rules}
 use native.Mathlib.Omega.{arith}
 use Rattle.octets.specs.Runs.{part}
 use Rattle.octets.proofs.Flags.{says_no}

@@ -1,5 +1,4 @@
 -- The reference stands at its offset.
-use borrow.Author.Rules.{rules}
 use Rattle.model.specs.Layouts.{of_over}
 use Rattle.page.proofs.overflow.next.Goals as goal
 

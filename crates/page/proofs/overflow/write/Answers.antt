@@ -1,5 +1,4 @@
 -- Over a cleared page stand the front and, right behind it, what is held.
-use borrow.Author.Rules.{rules}
 use mathlib.Core.Path.{refl}
 use Rattle.page.proofs.ByItself.{over-written}
 use Rattle.page.proofs.overflow.write.Goals as goal

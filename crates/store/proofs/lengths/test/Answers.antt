@@ -1,6 +1,4 @@
 -- The tests stand in the table's order.
-use borrow.Author.Rules.{rules}
-use borrow.Author.Tests.{not-true, not-false}
 use Rattle.store.proofs.Limits.{first-image, then_work, then_key, then_value, then_done}
 use Rattle.store.proofs.lengths.test.Goals as goal
 

@@ -1,8 +1,6 @@
 -- Each test of the code is a test of the walk, in the same order.
-use borrow.Author.Rules.{rules}
 use mathlib.Core.Bool.{false≢true}
 use native.Mathlib.Omega.{arith}
-use borrow.Author.Tests.{not-true, not-false}
 use Rattle.tree.proofs.Books.{inside}
 use Rattle.tree.proofs.Links.{link_old, link_inside, link_long, link_bad, link_other, link_good, link_next}
 use Rattle.tree.proofs.chain.linked.Goals as goal

@@ -1,11 +1,9 @@
 -- Each turn meets one free page, so what is left of the walk starts at the next.
-use mathlib.Core.Path.{◌≡◌, refl}
-use Prim.Native.Nat.{◌≤◌}
+use mathlib.Core.Path.{refl}
 use native.Mathlib.Omega.{arith}
 use borrow.Author.Rules.{rules}
-use borrow.Author.Tests.{not-true, not-false}
 use Rattle.tree.proofs.Books.{inside}
-use Rattle.tree.proofs.Freed.{ToGo, go-start, go-done, go-out, go-keeps, go_old, go-inside, go-long, go_bad, go_on}
+use Rattle.tree.proofs.Freed.{go-start, go-done, go-out, go-keeps, go_old, go-inside, go-long, go_bad, go_on}
 use Rattle.tree.proofs.free_list.walk.Goals as goal
 
 pub loop-left-init : goal.loop-left-init

@@ -1,5 +1,4 @@
 -- The part begins at the page's number times its length.
-use borrow.Author.Rules.{rules}
 use Rattle.octets.specs.Runs.{part}
 use Rattle.tree.proofs.Books.{page-taken}
 use Rattle.tree.proofs.image.page_of.Goals as goal

@@ -1,8 +1,6 @@
 -- The entries before i have roles, so what is left of the test starts at i.
 use Prim.Native.Nat.{◌-◌, ◌≤◌}
-use native.Mathlib.Omega.{arith}
-use borrow.Author.Rules.{rules}
-use Rattle.tree.proofs.Marks.{MetTo, met_start, met-not, met-more, met_end}
+use Rattle.tree.proofs.Marks.{MetTo}
 use Rattle.tree.proofs.meeting.all_met.Given as goal
 
 abbrev pub invariant-loop-i : goal.invariant-loop-i

@@ -1,10 +1,9 @@
 -- Each turn writes one more zero behind those written.
-use mathlib.Core.Path.{◌≡◌, refl, sym}
-use Prim.Native.Nat.{◌-◌, ◌≤◌}
+use mathlib.Core.Path.{refl, sym}
 use native.Mathlib.Omega.{arith}
 use borrow.Author.Rules.{rules}
-use lib.ListN.{length, length-set}
-use Rattle.octets.specs.Runs.{over, zeros}
+use lib.ListN.{length-set}
+use Rattle.octets.specs.Runs.{zeros}
 use Rattle.octets.proofs.Over.{over_none}
 use Rattle.tree.proofs.Marks.{clear_turn, cleared}
 use Rattle.tree.proofs.meeting.clear.Goals as goal

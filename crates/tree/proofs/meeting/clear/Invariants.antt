@@ -1,12 +1,8 @@
 -- Each turn writes one more zero behind those written.
-use mathlib.Core.Path.{◌≡◌, refl, sym}
+use mathlib.Core.Path.{◌≡◌}
 use Prim.Native.Nat.{◌-◌, ◌≤◌}
-use native.Mathlib.Omega.{arith}
-use borrow.Author.Rules.{rules}
-use lib.ListN.{length, length-set}
+use lib.ListN.{length}
 use Rattle.octets.specs.Runs.{over, zeros}
-use Rattle.octets.proofs.Over.{over_none}
-use Rattle.tree.proofs.Marks.{clear_turn, cleared}
 use Rattle.tree.proofs.meeting.clear.Given as goal
 
 abbrev pub invariant-loop-i : goal.invariant-loop-i

@@ -1,5 +1,4 @@
 -- Each test of the code is a test of the walk.
-use borrow.Author.Rules.{rules}
 use Rattle.tree.proofs.Marks.{keeps_same, met_zero, met-past, met-before, met-new, met-keeps}
 use Rattle.tree.proofs.meeting.meet.Goals as goal
 
