@@ -1,6 +1,5 @@
 -- The way from the root to a node, held from the node up: what a path of page and child place is in the code.
--- (`◌++◌` is for the edit `descend_left_at_separator`, which is written with it.)
-use Rattle.std.specs.Prelude.{List, [], ◌∷◌, ◌++◌, ℕ, zero, suc}
+use Rattle.std.specs.Prelude.{List, [], ◌∷◌, ℕ, zero, suc}
 use Rattle.octets.specs.Choice.{choose}
 use Rattle.octets.specs.Keys.{before}
 use Rattle.model.specs.Types.{Tree, Leaf, Inner, Sep}

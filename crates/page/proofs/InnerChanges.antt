@@ -37,9 +37,9 @@ zeros-parted x n z h =
 -- What stands behind the place is written anew: with a record more in front, with one less, or with another.
 
 module _ (p : List ℕ) (f i : ℕ) (X Y : List (Sep ℕ)) (s : Sep ℕ) where
-  put_in : (v : Parted p f i X Y) → 35 ≤ v.gap → length s.key ≤ 32 → Is (put_at p (word16 p 2) i (record_bytes s)) (inner f (X ++ (s ∷ Y)))
+  put_in_lem : (v : Parted p f i X Y) → 35 ≤ v.gap → length s.key ≤ 32 → Is (put_at p (word16 p 2) i (record_bytes s)) (inner f (X ++ (s ∷ Y)))
   unfolding put_at gather
-  put_in v g k =
+  put_in_lem v g k =
       let c : ℕ = word16 p 2 in
       let A : List ℕ = front_is c f ++ all X in
       let r : List ℕ = record_bytes s in
@@ -93,7 +93,7 @@ pub put_is : (p r : List ℕ) (c i : ℕ) (p' : List ℕ) → c ≡ word16 p 2 �
 unfolding Inserts
 put_is p r c i p' n h e q s w k b =
     let v = parted-at p q i w (omega (arith, h.place, count-is w)) in
-    rw (e, n, b) (put_in p q.first i (take i q.rest) (drop i q.rest) s v (omega (arith, h.room, v.long)) k)
+    rw (e, n, b) (put_in_lem p q.first i (take i q.rest) (drop i q.rest) s v (omega (arith, h.room, v.long)) k)
 
 pub cut-is : (p : List ℕ) (c i : ℕ) (p' : List ℕ) → c ≡ word16 p 2 → i < word16 p 2 → p' ≡ cut_at p c i → Removes p i p'
 unfolding Removes

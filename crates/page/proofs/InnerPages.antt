@@ -17,7 +17,7 @@ use Rattle.model.specs.Lists.{from}
 use Rattle.model.specs.Types.{Sep}
 use Rattle.model.specs.Sizes.{inner_most}
 use Rattle.model.specs.Layouts.{record_of, of_inner}
-use Rattle.page.specs.Inner.{child_of, keyIn, key_of, place_in, Keyed, record_is}
+use Rattle.page.specs.Inner.{child_of, KeyIn, key_of, place_in, Keyed, record_is}
 
 -- Read ----------------------------------------------------------------------------------------------------------------------
 -- A child and a key stand at the offset of their record.
@@ -101,5 +101,5 @@ module _ (p key : List ℕ) (c : ℕ) (k : Keyed p) (n : c ≡ word16 p 2) where
         sought-on e =
             record { left = let w = stepped ∙ choose-false _ 0 (suc (place_in key (records p (suc i) (c - suc i)))) (test ∙ e) in rw add-one (omega (arith, s.left)) }
 
-pub key-inside : (p : List ℕ) (i : ℕ) → Keyed p → i < word16 p 2 → keyIn p i
+pub key-inside : (p : List ℕ) (i : ℕ) → Keyed p → i < word16 p 2 → KeyIn p i
 key-inside p i k h = record { inside = omega (arith, k.keys i h, k.few, k.long) }

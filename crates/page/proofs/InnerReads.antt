@@ -15,7 +15,7 @@ use Rattle.model.specs.Types.{Sep}
 use Rattle.model.specs.Sizes.{key_most}
 use Rattle.model.specs.Layouts.{InnerPage, of_inner, record_of, record_bytes}
 use Rattle.model.proofs.Lists.{length-pad}
-use Rattle.page.specs.Inner.{child_of, keyIn, key_of, place_in, Keyed, record_is, front_is, Is, inner, no_sep}
+use Rattle.page.specs.Inner.{child_of, KeyIn, key_of, place_in, Keyed, record_is, front_is, Is, inner, no_sep}
 use Rattle.page.proofs.InnerPages.{records, records-all, records-none, records-more}
 use Rattle.page.proofs.InnerLaid.{part_middle, record_length, all, Parted, behind, parted-around, short-head, count-is, first-is}
 
@@ -93,7 +93,7 @@ module _ (p : List ℕ) (q : InnerPage) (w : Is p q) where
         keys = λ i k. let v = parted-around p q i w (omega (arith, count-is w)) in omega (arith, length-here v, short-head v.right);
       }
 
-  pub key_in : (i : ℕ) → i < length q.rest → keyIn p i
+  pub key_in : (i : ℕ) → i < length q.rest → KeyIn p i
   key_in i h = let v = parted-around p q i w h in record { inside = omega (arith, length-here v, short-head v.right, w.room) }
 
   pub child-first-is : child_of p 0 ≡ q.first

@@ -19,7 +19,7 @@ use Rattle.octets.proofs.Part.{part_at, part-add, part_length}
 use Rattle.model.specs.Lists.{pad}
 use Rattle.model.specs.Sizes.{key_most}
 use Rattle.model.specs.Layouts.{record_of, record_bytes}
-use Rattle.page.specs.Inner.{front_is, keyIn, key_before, FrontBytes, OneRecord, Ranked, AllRanked}
+use Rattle.page.specs.Inner.{front_is, KeyIn, key_before, FrontBytes, OneRecord, Ranked, AllRanked}
 use Rattle.page.proofs.Fronts.{part-two, read16}
 
 -- The front -----------------------------------------------------------------------------------------------------------------
@@ -128,7 +128,7 @@ module _ (p : List ℕ) (c i : ℕ) (h : i < c) where
   pub one-stops : {r : Bool} → Says r (OneRecord p i) → r ≡ false → Says false (AllRanked p c)
   one-stops s e = says-false s e (λ a. (a i h).one)
 
-  pub one_inside : 12 + 35 * (i + 1) ≤ length p → OneRecord p i → keyIn p i
+  pub one_inside : 12 + 35 * (i + 1) ≤ length p → OneRecord p i → KeyIn p i
   unfolding key_most
   one_inside l o = record { inside = omega (arith, o.short) }
 

@@ -18,7 +18,7 @@ child_of page zero = word16 page 8
 child_of page (suc i) = (record_of page i).child
 
 -- the key of record i is inside the page
-pub record keyIn (page : List ℕ) (i : ℕ) : Type 0 where
+pub record KeyIn (page : List ℕ) (i : ℕ) : Type 0 where
   pub inside : 12 + 35 * i + 3 + get_or page (12 + 35 * i) 0 ≤ length page
 
 -- a key by value: its bytes with what stands behind them, and its length

@@ -2,7 +2,7 @@ ghost use Rattle.std.specs.Prelude.{◌≡◌, ◌+◌, ◌*◌, ◌≤◌, ◌<
 ghost use Rattle.octets.specs.Says.{Says};
 ghost use Rattle.octets.specs.Numbers.{word16};
 ghost use Rattle.model.specs.Layouts.{record_of, of_inner};
-ghost use Rattle.page.specs.Inner.{child_of, keyIn, key_of, record_is, place_in, Keyed, front_is, put_at, cut_at, add_at, Fits, Joins, Inserts, Removes, Replaces, SetsFirst, Fills, Appends, FrontBytes, OneRecord, AllRanked, InnerBytes};
+ghost use Rattle.page.specs.Inner.{child_of, KeyIn, key_of, record_is, place_in, Keyed, front_is, put_at, cut_at, add_at, Fits, Joins, Inserts, Removes, Replaces, SetsFirst, Fills, Appends, FrontBytes, OneRecord, AllRanked, InnerBytes};
 
 use octets::places::{Offset, PageNo};
 
@@ -42,7 +42,7 @@ fn length_at(page: &[u8], i: usize) -> usize
 
 // The key of record i: a part of the page.
 pub fn separator(page: &[u8], i: usize) -> &[u8]
-    requires { keyIn page.now i }
+    requires { KeyIn page.now i }
     ensures { result.now ≡ (record_of page.now i).key }
 {
     let at = 12 + 35 * i;
