@@ -49,3 +49,6 @@ module _ (o : Order) (a b : List ℕ) (i : ℕ) (e : o ≡ compare_from a b i) w
 
     pub byte-same : get_or b i 0 ≤ get_or a i 0 → get_or a i 0 ≤ get_or b i 0 → o ≡ compare_from a b (i + 1)
     byte-same h k = goes ∙ choose-false _ _ _ (le-ltb _ _ h) ∙ choose-false _ _ _ (le-ltb _ _ k)
+
+-- where one key ends and the other does not
+pub ruleset ends = (ends-first, ends-second)

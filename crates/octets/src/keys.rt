@@ -10,6 +10,7 @@ pub enum Order {
 }
 
 // How two keys compare: by unsigned bytes, and a key before those that it begins.
+#[tactic(auto, using(crate::proofs::Compare::ends))]
 pub fn compare(a: &[u8], b: &[u8]) -> Order
     ensures { result ≡ compare_keys a.now b.now }
 {

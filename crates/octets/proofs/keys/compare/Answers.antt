@@ -1,14 +1,11 @@
 -- Each test decides what is left of the comparison, or leaves it to the next byte.
 use Rattle.std.proofs.Common.{arith, refl}
-use Rattle.octets.proofs.Compare.{compare_from, ends-both, ends-first, ends-second, byte-below, byte_above, byte-same}
+use Rattle.octets.proofs.Compare.{compare_from, ends-both, byte-below, byte_above, byte-same}
 use Rattle.octets.proofs.keys.compare.Goals as goal
 
 pub loop-i-init : goal.loop-i-init
 unfolding compare_from
 loop-i-init c = record { in_first = omega arith; in_second = omega arith; left = refl }
-
-pub returns-then-b-i : goal.returns-then-b-i
-returns-then-b-i c = ends-second _ _ _ _ c.loop-i.invariant.left (omega arith) (omega arith)
 
 pub returns-then-x-y : goal.returns-then-x-y
 returns-then-x-y c = byte-below _ _ _ _ c.loop-i.invariant.left (omega arith) (omega arith) (omega arith)
@@ -23,9 +20,6 @@ loop-i-preserved c =
       in_second = omega arith;
       left = byte-same _ _ _ _ c.loop-i.invariant.left (omega arith) (omega arith) (omega arith) (omega arith);
     }
-
-pub returns-then-i-b : goal.returns-then-i-b
-returns-then-i-b c = ends-first _ _ _ _ c.loop-i.invariant.left (omega arith) (omega arith)
 
 pub returns : goal.returns
 returns c = ends-both _ _ _ _ c.loop-i.invariant.left (omega arith) (omega arith)
