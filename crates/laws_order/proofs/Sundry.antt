@@ -4,11 +4,11 @@ use mathlib.Core.Logic.{inl, inr}
 use mathlib.Core.List.{List}
 use Prim.Native.Nat.{ℕ}
 use Rattle.octets.specs.Keys.{three}
-use Rattle.octets.specs.declared.keys.Order.{Order}
-use Rattle.octets.specs.declared.keys.Order.TheVariants.{Less, Equal, Greater}
+use Rattle.std.specs.declared.cmp.Ordering.{Ordering}
+use Rattle.std.specs.declared.cmp.Ordering.TheVariants.{Less, Equal, Greater}
 use Rattle.octets.proofs.Order.{◌≺◌, ≺_trans, not_≺}
 
-pub three-at : {A B : Type 0} (f : A → B) (o : Order) (x y z : A) → f (three o x y z) ≡ three o (f x) (f y) (f z)
+pub three-at : {A B : Type 0} (f : A → B) (o : Ordering) (x y z : A) → f (three o x y z) ≡ three o (f x) (f y) (f z)
 unfolding three
 three-at f Less x y z = refl
 three-at f Equal x y z = refl

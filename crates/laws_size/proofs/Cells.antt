@@ -6,8 +6,8 @@ use native.Mathlib.Omega.{arith}
 use lib.ListN.{length}
 use lib.Dec.{leb}
 use Rattle.octets.specs.Keys.{compare_keys, three}
-use Rattle.octets.specs.declared.keys.Order.{Order}
-use Rattle.octets.specs.declared.keys.Order.TheVariants.{Less, Equal, Greater}
+use Rattle.std.specs.declared.cmp.Ordering.{Ordering}
+use Rattle.std.specs.declared.cmp.Ordering.TheVariants.{Less, Equal, Greater}
 use Rattle.octets.proofs.Choice.{either, either_by, by_order}
 use Rattle.model.specs.Lists.{total}
 use Rattle.model.specs.Types.{Cell, Leaf}
@@ -50,7 +50,7 @@ module _ (f : Cell → ℕ) where
   total-with x [] = omega (arith, total-cons f x [])
   total-with x (c ∷ cs) = go (compare_keys x.key c.key) (total-with x cs)
     where
-      go : (o : Order) → total f (with x cs) ≡ total f (without x.key cs) + f x
+      go : (o : Ordering) → total f (with x cs) ≡ total f (without x.key cs) + f x
           → total f (three o (x ∷ c ∷ cs) (x ∷ cs) (c ∷ with x cs)) ≡ total f (three o (c ∷ cs) cs (c ∷ without x.key cs)) + f x
       go Less ih = omega (arith, total-cons f x (c ∷ cs))
       go Equal ih = omega (arith, total-cons f x cs)
@@ -61,7 +61,7 @@ module _ (f : Cell → ℕ) where
   total-found k [] = omega (arith, total-nil f)
   total-found k (c ∷ cs) = go (compare_keys k c.key) (total-found k cs)
     where
-      go : (o : Order) → total f cs ≡ total f (without k cs) + total f (found k cs)
+      go : (o : Ordering) → total f cs ≡ total f (without k cs) + total f (found k cs)
           → total f (c ∷ cs) ≡ total f (three o (c ∷ cs) cs (c ∷ without k cs)) + total f (three o [] (c ∷ []) (found k cs))
       go Less ih = omega (arith, total-nil f)
       go Equal ih = omega (arith, total-cons f c cs, total-cons f c [], total-nil f)
@@ -87,7 +87,7 @@ unfolding found packed moved three
 found-packed k e [] h = refl
 found-packed k e (c ∷ cs) h = go (compare_keys k c.key) h (found-packed k (e - cell_length c) cs)
   where
-    go : (o : Order) → three o [] (c ∷ []) (found k cs) ≡ [] → (found k cs ≡ [] → found k (packed (e - cell_length c) cs) ≡ [])
+    go : (o : Ordering) → three o [] (c ∷ []) (found k cs) ≡ [] → (found k cs ≡ [] → found k (packed (e - cell_length c) cs) ≡ [])
         → three o [] (moved (e - cell_length c) c ∷ []) (found k (packed (e - cell_length c) cs)) ≡ []
     go Less h ih = refl
     go Equal h ih = absurd (cons≢nil h)

@@ -3,8 +3,8 @@ use mathlib.Core.Path.{◌≡◌, refl}
 use mathlib.Core.Bool.{Bool, true, false}
 use Rattle.octets.specs.Choice.{choose}
 use Rattle.octets.specs.Keys.{three}
-use Rattle.octets.specs.declared.keys.Order.{Order}
-use Rattle.octets.specs.declared.keys.Order.TheVariants.{Less, Equal, Greater}
+use Rattle.std.specs.declared.cmp.Ordering.{Ordering}
+use Rattle.std.specs.declared.cmp.Ordering.TheVariants.{Less, Equal, Greater}
 
 -- By a test -------------------------------------------------------------------------------------------------------------
 -- The choice is its first branch where the test is true, and else its second.
@@ -35,19 +35,19 @@ either_by P false x y p q = q refl
 -- By a comparison -------------------------------------------------------------------------------------------------------
 -- The same of the choice among three.
 
-pub three-less : {A : Type 0} (o : Order) (x y z : A) → o ≡ Less → three o x y z ≡ x
+pub three-less : {A : Type 0} (o : Ordering) (x y z : A) → o ≡ Less → three o x y z ≡ x
 unfolding three
 three-less o x y z e = rw e
 
-pub three_equal : {A : Type 0} (o : Order) (x y z : A) → o ≡ Equal → three o x y z ≡ y
+pub three_equal : {A : Type 0} (o : Ordering) (x y z : A) → o ≡ Equal → three o x y z ≡ y
 unfolding three
 three_equal o x y z e = rw e
 
-pub three_greater : {A : Type 0} (o : Order) (x y z : A) → o ≡ Greater → three o x y z ≡ z
+pub three_greater : {A : Type 0} (o : Ordering) (x y z : A) → o ≡ Greater → three o x y z ≡ z
 unfolding three
 three_greater o x y z e = rw e
 
-pub by_order : {A : Type 0} (P : A → Type 0) (o : Order) (x y z : A) → (o ≡ Less → P x) → (o ≡ Equal → P y) → (o ≡ Greater → P z)
+pub by_order : {A : Type 0} (P : A → Type 0) (o : Ordering) (x y z : A) → (o ≡ Less → P x) → (o ≡ Equal → P y) → (o ≡ Greater → P z)
     → P (three o x y z)
 unfolding three
 by_order P Less x y z p q r = p refl

@@ -1,5 +1,5 @@
 -- The order of keys: `compare_keys` decides it, and it is strict and total.
-use mathlib.Core.Path.{◌≡◌, refl, sym, ap, ◌∙◌}
+use mathlib.Core.Path.{◌≡◌, refl, sym}
 use mathlib.Core.Bool.{true, false, true≢false, false≢true}
 use mathlib.Core.List.{List, [], ◌∷◌, ◌++◌}
 use mathlib.Core.Logic.{◌⊎◌, inl, inr}
@@ -9,9 +9,10 @@ use native.Mathlib.Omega.{arith}
 use borrow.Author.Tests.{ltb-true, ltb-false}
 use lib.Dec.{ltb}
 use Rattle.octets.specs.Choice.{choose}
-use Rattle.octets.specs.Keys.{compare_keys, before, is_less, three}
-use Rattle.octets.specs.declared.keys.Order.{Order}
-use Rattle.octets.specs.declared.keys.Order.TheVariants.{Less, Equal, Greater}
+use Rattle.std.specs.Ordering.{is_lt}
+use Rattle.octets.specs.Keys.{compare_keys, before, three}
+use Rattle.std.specs.declared.cmp.Ordering.{Ordering}
+use Rattle.std.specs.declared.cmp.Ordering.TheVariants.{Less, Equal, Greater}
 use Rattle.octets.proofs.Choice.{either_by}
 
 -- The order -------------------------------------------------------------------------------------------------------------
@@ -53,12 +54,12 @@ pub ≺_empty : (a : List ℕ) → a ≺ [] → ⊥
 -- What a comparison says ------------------------------------------------------------------------------------------------
 -- One of the three, so any two keys are in order, alike, or in order the other way round.
 
-pub data Ordered : List ℕ → List ℕ → Order → Type 0 where
+pub data Ordered : List ℕ → List ℕ → Ordering → Type 0 where
   first : {a b : List ℕ} → a ≺ b → Ordered a b Less
   alike : {a : List ℕ} → Ordered a a Equal
   second : {a b : List ℕ} → b ≺ a → Ordered a b Greater
 
-deeper : {x : ℕ} {a b : List ℕ} {o : Order} → Ordered a b o → Ordered (x ∷ a) (x ∷ b) o
+deeper : {x : ℕ} {a b : List ℕ} {o : Ordering} → Ordered a b o → Ordered (x ∷ a) (x ∷ b) o
 deeper (first h) = first (there h)
 deeper alike = alike
 deeper (second h) = second (there h)
@@ -80,10 +81,10 @@ ordered (x ∷ xs) (y ∷ ys) =
     (λ f. first (here (ltb-true x y f)))
     (λ f. headed x y xs ys f (ordered xs ys))
 
-pub compared : (P : Order → Type 0) (a b : List ℕ) → (a ≺ b → P Less) → (a ≡ b → P Equal) → (b ≺ a → P Greater) → P (compare_keys a b)
+pub compared : (P : Ordering → Type 0) (a b : List ℕ) → (a ≺ b → P Less) → (a ≡ b → P Equal) → (b ≺ a → P Greater) → P (compare_keys a b)
 compared P a b f g h = go (ordered a b) f g h
   where
-    go : {a b : List ℕ} {o : Order} → Ordered a b o → (a ≺ b → P Less) → (a ≡ b → P Equal) → (b ≺ a → P Greater) → P o
+    go : {a b : List ℕ} {o : Ordering} → Ordered a b o → (a ≺ b → P Less) → (a ≡ b → P Equal) → (b ≺ a → P Greater) → P o
     go (first p) f g h = f p
     go alike f g h = g refl
     go (second p) f g h = h p
@@ -129,7 +130,7 @@ greater→less a b e = order_lt (greater→≻ a b e)
 
 pub before→≺ : (a b : List ℕ) → before a b ≡ true → a ≺ b
 unfolding before
-before→≺ a b = compared (λ o. is_less o ≡ true → a ≺ b) a b (λ p e. p) (λ q e. absurd (false≢true e)) (λ p e. absurd (false≢true e))
+before→≺ a b = compared (λ o. is_lt o ≡ true → a ≺ b) a b (λ p e. p) (λ q e. absurd (false≢true e)) (λ p e. absurd (false≢true e))
 
 pub ≺→before : {a b : List ℕ} → a ≺ b → before a b ≡ true
 unfolding before
@@ -140,7 +141,7 @@ not_before→ a b e p = true≢false (rw e at (sym (≺→before p)))
 
 pub not_before← : (a b : List ℕ) → (a ≺ b → ⊥) → before a b ≡ false
 unfolding before
-not_before← a b n = compared (λ o. is_less o ≡ false) a b (λ p. absurd (n p)) (λ q. refl) (λ p. refl)
+not_before← a b n = compared (λ o. is_lt o ≡ false) a b (λ p. absurd (n p)) (λ q. refl) (λ p. refl)
 
 -- Keys that are not in order --------------------------------------------------------------------------------------------
 -- A key that is not below another is above all that the other is above.
@@ -164,8 +165,3 @@ by_keys P a b x y z f g h = compared (λ o. P (three o x y z)) a b f g h
 
 pub by_before : {A : Type 0} (P : A → Type 0) (a b : List ℕ) (x y : A) → (a ≺ b → P x) → ((a ≺ b → ⊥) → P y) → P (choose (before a b) x y)
 by_before P a b x y f g = either_by P (before a b) x y (λ e. f (before→≺ a b e)) (λ e. g (not_before→ a b e))
-
--- the test by a comparison's answer
-pub before_by : (a b : List ℕ) (o x : Order) → o ≡ compare_keys a b → o ≡ x → is_less x ≡ before a b
-unfolding before
-before_by a b o x e f = ap is_less (sym f ∙ e)

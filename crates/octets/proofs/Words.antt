@@ -1,37 +1,36 @@
 -- Numbers written to bytes and read from them.
-use mathlib.Core.Path.{◌≡◌, refl, sym, ◌∙◌}
+use mathlib.Core.Path.{◌≡◌, sym, ◌∙◌}
 use mathlib.Core.List.{List, [], ◌∷◌, ◌++◌}
 use mathlib.Core.Logic.{◌⊎◌, inl, inr, ⊎_elim}
 use Prim.Native.Nat.{ℕ, zero, suc, ◌+◌, ◌*◌, ◌/◌, ◌%◌, ◌≤◌, ◌<◌}
 use native.Mathlib.Nat.{add-zero, add_assoc}
-use native.Mathlib.Numerals.{add-one, add-two, add-three}
+use native.Mathlib.Numerals.{add-one}
 use native.Mathlib.Omega.{arith}
-use lib.ListN.{length, get_or, set, get_or-append}
+use lib.ListN.{length, get_or, get_or-append}
 use lib.Seq.{drop-cons, get_or-append-add}
+use Rattle.std.specs.Int.{to_le_bytes, w16, w32}
 use Rattle.octets.specs.Numbers.{word16, word32, bytes16, bytes32}
+use Rattle.octets.specs.Laws.{laws16, laws32}
 use Rattle.octets.specs.Runs.{over, part}
-use Rattle.octets.proofs.Over.{over_none, over-store, get_or-over_out, get_or-over_in}
+use Rattle.octets.proofs.Over.{get_or-over_out, get_or-over_in}
 use Rattle.octets.proofs.Part.{part_at, part-add, over-part}
 
 -- Written ---------------------------------------------------------------------------------------------------------------
--- The bytes of a number, stored one after the other, are the number written.
+-- A number has as many bytes as its width, and they are those that the library gives.
 
 pub length-bytes16 : (x : ℕ) → length (bytes16 x) ≡ 2
-unfolding bytes16
-length-bytes16 x = refl
+length-bytes16 = laws16.long
 
 pub length-bytes32 : (x : ℕ) → length (bytes32 x) ≡ 4
-unfolding bytes32
-length-bytes32 x = refl
+length-bytes32 = laws32.long
 
-pub set-bytes16 : (l : List ℕ) (at x : ℕ) → set (set l at (x % 256)) (at + 1) (x / 256) ≡ over l at (bytes16 x)
+pub le_bytes16 : (x : ℕ) → x < 65536 → to_le_bytes w16 x ≡ bytes16 x
 unfolding bytes16
-set-bytes16 l at x = rw add-one (simp (over-store, over_none))
+le_bytes16 x h = let e : x / 256 % 256 ≡ x / 256 = omega arith in rw e
 
-pub set-bytes32 : (l : List ℕ) (at x : ℕ)
-    → set (set (set (set l at (x % 256)) (at + 1) (x / 256 % 256)) (at + 2) (x / 65536 % 256)) (at + 3) (x / 16777216) ≡ over l at (bytes32 x)
+pub le_bytes32 : (x : ℕ) → x < 4294967296 → to_le_bytes w32 x ≡ bytes32 x
 unfolding bytes32
-set-bytes32 l at x = rw (add-one, add-two, add-three) (simp (over-store, over_none))
+le_bytes32 x h = let e : x / 16777216 % 256 ≡ x / 16777216 = omega arith in rw e
 
 -- Read elsewhere --------------------------------------------------------------------------------------------------------
 -- A number goes by its bytes alone: apart from a write it is as it was, within a run it is the run's, and in a part or in lists joined it is that of the place.
@@ -83,13 +82,10 @@ word32-append-right a b m j e = word32_ext _ _ (m + j) j (λ k p. rw (← e, add
 -- The number comes back: from its bytes, from a list that begins with them, and from any place that they were written to.
 
 pub word16-bytes16 : (x : ℕ) → word16 (bytes16 x) 0 ≡ x
-unfolding word16 bytes16
-word16-bytes16 x = let e : x % 256 + 256 * (x / 256) ≡ x = omega arith in e
+word16-bytes16 = laws16.again
 
 pub word32-bytes32 : (x : ℕ) → word32 (bytes32 x) 0 ≡ x
-unfolding word32 word16 bytes32
-word32-bytes32 x =
-    let e : x % 256 + 256 * (x / 256 % 256) + 65536 * (x / 65536 % 256 + 256 * (x / 16777216)) ≡ x = omega arith in e
+word32-bytes32 = laws32.again
 
 pub word16-front : (x : ℕ) (s : List ℕ) → word16 (bytes16 x ++ s) 0 ≡ x
 word16-front x s =
@@ -164,7 +160,7 @@ bytes32-sum a b c d p q r =
     let j : x / 16777216 ≡ d = omega arith in
     rw (e, f, g, h, i, j)
 
-part-two : (l : List ℕ) (i : ℕ) → i + 2 ≤ length l → part l i 2 ≡ get_or l i 0 ∷ get_or l (i + 1) 0 ∷ []
+pub part-two : (l : List ℕ) (i : ℕ) → i + 2 ≤ length l → part l i 2 ≡ get_or l i 0 ∷ get_or l (i + 1) 0 ∷ []
 unfolding part
 part-two l i h = rw (add-one, drop-cons l i 0 (omega arith), drop-cons l (suc i) 0 (omega arith))
 

@@ -4,6 +4,6 @@
 #![tactic(auto)]
 
 pub mod places; // a page number, a slot number and a byte offset, three kinds that are not to be mixed up
-pub mod numbers; // little-endian numbers of 16 and 32 bits
+pub mod numbers; // little-endian numbers of 16 and 32 bits, and page numbers
 pub mod runs; // a run of bytes zeroed, copied in, moved, tested for zeros
 pub mod keys; // how two keys compare

@@ -10,7 +10,8 @@ use Rattle.octets.specs.Says.{Says}
 use Rattle.octets.specs.Runs.{over, part, zeros}
 use Rattle.octets.specs.Numbers.{word16, bytes16, bytes32}
 use Rattle.octets.proofs.Flags.{says_map}
-use Rattle.octets.proofs.Over.{length-zeros, get_or-zeros, over-all, over-append, over_zeros}
+use Rattle.octets.proofs.Over.{get_or-zeros, over-append, over_zeros}
+use Rattle.octets.proofs.Words.{part-two}
 use Rattle.octets.proofs.Part.{part-add, part_at, part_length}
 use Rattle.model.specs.Lists.{pad}
 use Rattle.model.specs.Layouts.{HeadPage, to_head, of_head, to_free, of_free, to_over, of_over}
@@ -18,7 +19,7 @@ use Rattle.page.specs.declared.header.Header.{Header}
 use Rattle.page.specs.Header.{head_of, front_of, HeadBytes}
 use Rattle.page.specs.Free.{FreeBytes}
 use Rattle.page.specs.Overflow.{over_front, over_page, OverBytes}
-use Rattle.page.proofs.Fronts.{pad-front, pad-rest, pad-of, front-over, clear-over, part-two, read16, read32}
+use Rattle.page.proofs.Fronts.{pad-front, pad-rest, pad-of, front-over, zeros-over, read16, read32}
 
 -- Header ------------------------------------------------------------------------------------------------------------------
 
@@ -81,13 +82,11 @@ two-zeros : zeros 2 ≡ 0 ∷ 0 ∷ []
 unfolding zeros
 two-zeros = refl
 
-pub free-written : (p z q : List ℕ) (next : ℕ) → 4 ≤ length p → z ≡ over p 0 (zeros (length p)) → q ≡ over z 2 (bytes16 next) → q ≡ to_free (length p) next
-free-written p z q next h e f =
-    let n = length-zeros (length p) in
-    let c : z ≡ zeros (length p) = e ∙ over-all p (zeros (length p)) n in
-    let b : over z 0 (0 ∷ 0 ∷ []) ≡ z = rw (c, ← two-zeros) (over_zeros (zeros (length p)) 0 2 (λ i w. get_or-zeros (length p) (0 + i))) in
+pub free-written : (n : ℕ) (z q : List ℕ) (next : ℕ) → 4 ≤ n → z ≡ zeros n → q ≡ over z 2 (bytes16 next) → q ≡ to_free n next
+free-written n z q next h e f =
+    let b : over z 0 (0 ∷ 0 ∷ []) ≡ z = rw (e, ← two-zeros) (over_zeros (zeros n) 0 2 (λ i w. get_or-zeros n (0 + i))) in
     let k : over z 0 (free_bytes next) ≡ over z 2 (bytes16 next) = free-over z next ∙ rw b in
-    f ∙ (sym k ∙ (rw e (clear-over p (free_bytes next) (length p) refl (omega (arith, free-length next))) ∙ sym (to_free_lem (length p) next)))
+    f ∙ (sym k ∙ (rw e (zeros-over n (free_bytes next) (omega (arith, free-length next))) ∙ sym (to_free_lem n next)))
 
 free-read : (p : List ℕ) → ((i : ℕ) → get_or p i 0 < 256) → 4 ≤ length p → part p 0 4 ≡ get_or p 0 0 ∷ get_or p 1 0 ∷ bytes16 (of_free p)
 unfolding of_free
@@ -129,14 +128,13 @@ front_length : (next held : ℕ) → length (over_front next held) ≡ 8
 unfolding over_front bytes16
 front_length next held = refl
 
-pub over-written : (p z f y q held : List ℕ) (next n : ℕ) → 8 + length held ≤ length p → z ≡ over p 0 (zeros (length p)) → n ≡ length held
-    → f ≡ over_front next n → y ≡ over z 0 f → q ≡ over y 8 held → q ≡ to_over (length p) (over_page next held)
-over-written p z f y q held next n h e s k w v =
-    let i : f ≡ over_front next (length held) = k ∙ ap (over_front next) s in
+pub over-written : (n : ℕ) (z f y q held : List ℕ) (next : ℕ) → 8 + length held ≤ n → z ≡ zeros n → f ≡ over_front next (length held)
+    → y ≡ over z 0 f → q ≡ over y 8 held → q ≡ to_over n (over_page next held)
+over-written n z f y q held next h e i w v =
     let l : 0 + length f ≡ 8 = ap (λ (x : List ℕ). 0 + length x) i ∙ omega (arith, front_length next (length held)) in
     let j : over z 0 (f ++ held) ≡ over y 8 held = over-append z 0 f held ∙ rw (l, w) in
     let o : f ++ held ≡ over_bytes next held = rw i (over-joined next held) in
-    v ∙ (sym j ∙ (rw (o, e) (clear-over p (over_bytes next held) (length p) refl (omega (arith, over-length next held))) ∙ sym (to-over (length p) next held)))
+    v ∙ (sym j ∙ (rw (o, e) (zeros-over n (over_bytes next held) (omega (arith, over-length next held))) ∙ sym (to-over n next held)))
 
 over-page : (p : List ℕ) → of_over p ≡ over_page (word16 p 2) (part p 8 (word16 p 4))
 unfolding of_over over_page

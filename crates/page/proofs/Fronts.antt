@@ -1,16 +1,14 @@
 -- A page that has its bytes in front and zeros behind: what it is written as, and what is read of it.
 use mathlib.Core.Path.{◌≡◌, refl, sym, ap, ◌∙◌}
 use mathlib.Core.Logic.{inr}
-use mathlib.Core.List.{List, [], ◌∷◌, ◌++◌}
-use Prim.Native.Nat.{ℕ, suc, ◌+◌, ◌-◌, ◌≤◌, ◌<◌}
+use mathlib.Core.List.{List, ◌++◌}
+use Prim.Native.Nat.{ℕ, ◌+◌, ◌-◌, ◌≤◌, ◌<◌}
 use native.Mathlib.Nat.{zero-add}
-use native.Mathlib.Numerals.{add-one}
 use native.Mathlib.Omega.{arith}
 use lib.ListN.{length, get_or}
-use lib.Seq.{drop-cons}
 use Rattle.octets.specs.Runs.{over, part, zeros}
 use Rattle.octets.specs.Numbers.{word16, word32, bytes16, bytes32}
-use Rattle.octets.proofs.Over.{over-all, length_over, length-zeros}
+use Rattle.octets.proofs.Over.{length_over, length-zeros}
 use Rattle.octets.proofs.Part.{part-add, part-all, part_length, part-first, part-second, part-zeros, part-stands, part-over-out}
 use Rattle.octets.proofs.Words.{bytes16-word16, bytes32-word32}
 use Rattle.model.specs.Lists.{pad}
@@ -51,24 +49,19 @@ front-over p b k size fits z =
     let q : part (over p 0 b) k (length p - k) ≡ part p k (length p - k) = part-over-out p 0 b k (length p - k) (omega arith) (inr (omega arith)) in
     pad-of (over p 0 b) b k size (omega arith) (part-stands p 0 b k size (omega arith)) (rw (l, q) z) ∙ ap (λ (n : ℕ). pad n b) l
 
-pub zeros-rest : (n k : ℕ) → k ≤ n → part (zeros n) k (n - k) ≡ zeros (length (part (zeros n) k (n - k)))
+zeros-rest : (n k : ℕ) → k ≤ n → part (zeros n) k (n - k) ≡ zeros (length (part (zeros n) k (n - k)))
 zeros-rest n k h = let e = part-zeros n k (n - k) (omega arith) in rw (e, length-zeros (n - k))
 
--- the same of a page that is cleared first
-pub clear-over : (p b : List ℕ) (n : ℕ) → length p ≡ n → length b ≤ n → over (over p 0 (zeros n)) 0 b ≡ pad n b
-clear-over p b n e h =
+-- the same of a page that is cleared
+pub zeros-over : (n : ℕ) (b : List ℕ) → length b ≤ n → over (zeros n) 0 b ≡ pad n b
+zeros-over n b h =
     let z = length-zeros n in
-    let c : over p 0 (zeros n) ≡ zeros n = over-all p (zeros n) (omega arith) in
     let r : part (zeros n) (length b) (length (zeros n) - length b) ≡ zeros (length (part (zeros n) (length b) (length (zeros n) - length b)))
     = rw z (zeros-rest n (length b) h) in
-    rw c (front-over (zeros n) b (length b) refl (omega arith) r ∙ ap (λ (m : ℕ). pad m b) z)
+    front-over (zeros n) b (length b) refl (omega arith) r ∙ ap (λ (m : ℕ). pad m b) z
 
 -- Read --------------------------------------------------------------------------------------------------------------------
 -- The bytes of a page are the bytes of the numbers in it.
-
-pub part-two : (p : List ℕ) (i : ℕ) → i + 2 ≤ length p → part p i 2 ≡ get_or p i 0 ∷ get_or p (i + 1) 0 ∷ []
-unfolding part
-part-two p i h = rw (drop-cons p i 0 (omega arith), drop-cons p (suc i) 0 (omega arith), add-one)
 
 module _ (p : List ℕ) (bytes : (i : ℕ) → get_or p i 0 < 256) where
   pub read16 : (i : ℕ) → i + 2 ≤ length p → part p i 2 ≡ bytes16 (word16 p i)

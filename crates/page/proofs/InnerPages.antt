@@ -5,19 +5,18 @@ use mathlib.Core.List.{List, [], ◌∷◌, ◌++◌, map}
 use Prim.Native.Nat.{ℕ, zero, suc, ◌+◌, ◌-◌, ◌*◌, ◌≤◌, ◌<◌, min}
 use native.Mathlib.Numerals.{add-one}
 use native.Mathlib.Omega.{arith}
-use lib.ListN.{length, get_or, set, replicate, length-replicate}
+use lib.ListN.{length, get_or, set, replicate}
 use Rattle.octets.specs.Choice.{choose}
 use Rattle.octets.specs.Runs.{over, part}
 use Rattle.octets.specs.Numbers.{word16, bytes16}
 use Rattle.octets.specs.Keys.{before}
 use Rattle.octets.proofs.Choice.{choose-true, choose-false}
 use Rattle.octets.proofs.Over.{over-all}
-use Rattle.octets.proofs.Part.{part_length}
 use Rattle.model.specs.Lists.{from}
 use Rattle.model.specs.Types.{Sep}
 use Rattle.model.specs.Sizes.{inner_most}
 use Rattle.model.specs.Layouts.{record_of, of_inner}
-use Rattle.page.specs.Inner.{child_of, KeyIn, key_of, place_in, Keyed, record_is}
+use Rattle.page.specs.Inner.{child_of, key_of, place_in, Keyed, record_is}
 
 -- Read ----------------------------------------------------------------------------------------------------------------------
 -- A child and a key stand at the offset of their record.
@@ -35,12 +34,9 @@ pub key-part : (p : List ℕ) (i n : ℕ) → n ≡ get_or p (12 + 35 * i) 0 →
 unfolding record_of
 key-part p i n e = let q : 12 + 35 * i + 3 + n - (12 + 35 * i + 3) ≡ get_or p (12 + 35 * i) 0 = omega arith in rw q
 
-pub key-value : (p b : List ℕ) (i n : ℕ) → 12 + 35 * (i + 1) ≤ length p
-    → b ≡ over (replicate 32 0) 0 (part p (12 + 35 * i + 3) (12 + 35 * i + 3 + 32 - (12 + 35 * i + 3))) → n ≡ get_or p (12 + 35 * i) 0 → n < 256 → key_of p i b n
-key-value p b i n h e f l =
-    let q : 12 + 35 * i + 3 + 32 - (12 + 35 * i + 3) ≡ 32 = omega arith in
-    let k : length (part p (12 + 35 * i + 3) 32) ≡ 32 = part_length p (12 + 35 * i + 3) 32 (omega arith) in
-    record { are = e ∙ rw q (over-all (replicate 32 0) (part p (12 + 35 * i + 3) 32) (omega (arith, length-replicate {A = ℕ} 32 0))); long = f; byte = l }
+pub key-value : (p b : List ℕ) (i n : ℕ) → b ≡ part p (12 + 35 * i + 3) (12 + 35 * i + 35 - (12 + 35 * i + 3)) → n ≡ get_or p (12 + 35 * i) 0 → n < 256
+    → key_of p i b n
+key-value p b i n e f l = let q : 12 + 35 * i + 35 - (12 + 35 * i + 3) ≡ 32 = omega arith in record { are = e ∙ rw q; long = f; byte = l }
 
 -- Written -------------------------------------------------------------------------------------------------------------------
 -- A record is its length, its child and its key, one behind the other.
@@ -79,7 +75,7 @@ module _ (p key : List ℕ) (c : ℕ) (k : Keyed p) (n : c ≡ word16 p 2) where
       record { left = ap (place_in key) (records-all p k.few) ∙ (rw (← n) (let e : c - 0 ≡ c = omega arith in let z : 0 + place_in key (records p 0 c) ≡ place_in key (records p 0 c) = omega arith in rw (e, z))) }
 
   module _ (i : ℕ) (s : Sought p key c i) where
-    pub sought_end : c ≤ i → i ≤ c → i ≡ place_in key (of_inner p).rest
+    pub sought_end : c ≤ i → i ≤ c → c ≡ place_in key (of_inner p).rest
     sought_end h l =
         let e : c - i ≡ 0 = omega arith in
         let z : place_in key (records p i (c - i)) ≡ 0 = rw (e, records-none p i) (unfold place_in in refl) in
@@ -100,6 +96,3 @@ module _ (p key : List ℕ) (c : ℕ) (k : Keyed p) (n : c ≡ word16 p 2) where
         pub sought-on : r ≡ false → Sought p key c (i + 1)
         sought-on e =
             record { left = let w = stepped ∙ choose-false _ 0 (suc (place_in key (records p (suc i) (c - suc i)))) (test ∙ e) in rw add-one (omega (arith, s.left)) }
-
-pub key-inside : (p : List ℕ) (i : ℕ) → Keyed p → i < word16 p 2 → KeyIn p i
-key-inside p i k h = record { inside = omega (arith, k.keys i h, k.few, k.long) }

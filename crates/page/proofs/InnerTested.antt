@@ -1,32 +1,30 @@
 -- What is tested of an inner page's bytes: the front, a record, and one record after another.
 use mathlib.Core.Path.{◌≡◌, sym, ap, ◌∙◌}
-use mathlib.Core.Bool.{Bool, true, false, true≢false}
+use mathlib.Core.Bool.{Bool, true}
 use mathlib.Core.List.{List, [], ◌∷◌, ◌++◌, append_assoc, append_cancel_left}
 use Prim.Native.Nat.{ℕ, suc, ◌+◌, ◌-◌, ◌*◌, ◌≤◌, ◌<◌}
 use native.Mathlib.Nat.{zero-add}
 use native.Mathlib.Numerals.{add-one}
 use native.Mathlib.Omega.{arith}
 use borrow.Author.Count.{below_more}
-use lib.Bits.{bit_or, or_add_and, and_le_l, and_le_r}
+use lib.Bits.{bit_or}
 use lib.ListN.{length, get_or}
 use lib.Seq.{drop-cons}
 use Rattle.octets.specs.Says.{Says}
 use Rattle.octets.specs.Runs.{part, zeros}
 use Rattle.octets.specs.Numbers.{word16, bytes16}
 use Rattle.octets.specs.Keys.{before}
-use Rattle.octets.proofs.Flags.{says_map, says_no, says-false}
+use Rattle.octets.proofs.Flags.{says_map, or-none}
 use Rattle.octets.proofs.Part.{part_at, part-add, part_length}
 use Rattle.model.specs.Lists.{pad}
 use Rattle.model.specs.Sizes.{key_most}
 use Rattle.model.specs.Layouts.{record_of, record_bytes}
-use Rattle.page.specs.Inner.{front_is, KeyIn, key_before, FrontBytes, OneRecord, Ranked, AllRanked}
-use Rattle.page.proofs.Fronts.{part-two, read16}
+use Rattle.page.specs.Inner.{front_is, KeyIn, key_before, FrontBytes, OneRecord, Ranked}
+use Rattle.octets.proofs.Words.{part-two}
+use Rattle.page.proofs.Fronts.{read16}
 
 -- The front -----------------------------------------------------------------------------------------------------------------
 -- Its two numbers may be any, so the first byte and those that are zero for good decide.
-
-or-none : (a b : ℕ) → bit_or a b ≡ 0 → (a ≡ 0) × (b ≡ 0)
-or-none a b e = (omega (arith, or_add_and a b, and_le_r a b), omega (arith, or_add_and a b, and_le_l a b))
 
 -- the bytes that are zero for good, joined
 abbrev pub seen_in : List ℕ → ℕ
@@ -122,12 +120,9 @@ module _ (p : List ℕ) (i : ℕ) (h : 12 + 35 * (i + 1) ≤ length p) (n : ℕ)
       (λ k. append_cancel_left head _ _ (sym (record_read b) ∙ (k.same ∙ record_own)))
 
 -- One record after another ---------------------------------------------------------------------------------------------------
--- A record that is none, or whose key is not above the last, says no; else the next one's last key is its key.
+-- A record whose key is above the last is ranked with those before it, and its key is the next one's last.
 
 module _ (p : List ℕ) (c i : ℕ) (h : i < c) where
-  pub one-stops : {r : Bool} → Says r (OneRecord p i) → r ≡ false → Says false (AllRanked p c)
-  one-stops s e = says-false s e (λ a. (a i h).one)
-
   pub one_inside : 12 + 35 * (i + 1) ≤ length p → OneRecord p i → KeyIn p i
   unfolding key_most
   one_inside l o = record { inside = omega (arith, o.short) }
@@ -135,9 +130,6 @@ module _ (p : List ℕ) (c i : ℕ) (h : i < c) where
   module _ (last key : List ℕ) (r : Bool) (l : last ≡ key_before p i) (k : key ≡ (record_of p i).key) (b : r ≡ before last key) where
     test : before (key_before p i) (record_of p i).key ≡ r
     test = rw (← l, ← k) (sym b)
-
-    pub above-stops : r ≡ false → Says false (AllRanked p c)
-    above-stops e = says_no (λ a. true≢false (sym (a i h).above ∙ (test ∙ e)))
 
     pub above_on : OneRecord p i → r ≡ true → ((j : ℕ) → j < i → Ranked p j) → (j : ℕ) → j < i + 1 → Ranked p j
     above_on o e f = below_more (Ranked p) i f (record { one = o; above = test ∙ e })

@@ -1,7 +1,7 @@
 -- An inner page: what the code reads and writes of it, by its bytes, and the rule of the page by itself.
-use Rattle.std.specs.Prelude.{◌≡◌, true, List, [], ◌∷◌, ◌++◌, map, ℕ, zero, suc, ◌+◌, ◌*◌, ◌-◌, ◌≤◌, ◌<◌, length, get_or, take, drop}
+use Rattle.std.specs.Prelude.{◌≡◌, true, List, [], ◌∷◌, ◌++◌, map, ℕ, zero, suc, ◌+◌, ◌*◌, ◌≤◌, ◌<◌, length, get_or, take, drop}
 use Rattle.octets.specs.Choice.{choose}
-use Rattle.octets.specs.Runs.{over, part, zeros}
+use Rattle.octets.specs.Runs.{part, zeros}
 use Rattle.octets.specs.Numbers.{word16, bytes16}
 use Rattle.octets.specs.Keys.{before}
 use Rattle.model.specs.Lists.{every}
@@ -45,18 +45,6 @@ record_is len child bytes = len ∷ bytes16 child ++ bytes
 
 unfoldable pub front_is : ℕ → ℕ → List ℕ
 front_is c first = 2 ∷ 0 ∷ bytes16 c ++ (zeros 4 ++ (bytes16 first ++ (0 ∷ 0 ∷ [])))
-
--- a record put in as record i of c + 1, and taken out as record i of c
-unfoldable pub put_at : List ℕ → ℕ → ℕ → List ℕ → List ℕ
-put_at p c i r = over (over (over p (12 + 35 * (i + 1)) (part p (12 + 35 * i) (35 * (c - i)))) (12 + 35 * i) r) 2 (bytes16 (c + 1))
-
-unfoldable pub cut_at : List ℕ → ℕ → ℕ → List ℕ
-cut_at p c i =
-    over (over (over p (12 + 35 * i) (part p (12 + 35 * (i + 1)) (35 * (c - i - 1)))) (12 + 35 * (c - 1)) (zeros 35)) 2 (bytes16 (c - 1))
-
--- m records of another page written behind c
-unfoldable pub add_at : List ℕ → ℕ → List ℕ → ℕ → List ℕ
-add_at p c from m = over (over p (12 + 35 * c) (part from 12 (35 * m))) 2 (bytes16 (c + m))
 
 -- there is room for one record more, at place i
 pub record Fits (p : List ℕ) (c i : ℕ) : Type 0 where

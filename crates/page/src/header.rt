@@ -3,10 +3,11 @@ ghost use Rattle.octets.specs.Says.{Says};
 ghost use Rattle.model.specs.Layouts.{to_head, of_head};
 ghost use Rattle.page.specs.Header.{head_of, front_of, HeadBytes};
 
+use octets::numbers::Number;
 use octets::places::{Offset, PageNo};
 
 // What page 0 says of the store.
-#[derive(Clone, Copy)]
+#[derive(Clone, Copy, Debug, PartialEq, Eq)]
 pub struct Header {
     pub n: u16,
     pub root: PageNo,
@@ -17,17 +18,18 @@ pub struct Header {
 }
 
 // What a header says.
+#[tactic(auto, unfolding(crate::specs::Header::head_of, model::specs::Layouts::of_head))]
 pub fn read(page: &[u8]) -> Header
     requires { 14 ≤ length page.now }
     ensures { head_of result ≡ of_head page.now }
 {
     Header {
-        n: octets::numbers::get16(page, Offset(0)),
-        root: PageNo(octets::numbers::get16(page, Offset(2))),
-        height: octets::numbers::get16(page, Offset(4)),
-        free: PageNo(octets::numbers::get16(page, Offset(6))),
-        count: octets::numbers::get32(page, Offset(8)),
-        edition: octets::numbers::get16(page, Offset(12)),
+        n: u16::get(page, Offset(0)),
+        root: PageNo::get(page, Offset(2)),
+        height: u16::get(page, Offset(4)),
+        free: PageNo::get(page, Offset(6)),
+        count: u32::get(page, Offset(8)),
+        edition: u16::get(page, Offset(12)),
     }
 }
 
@@ -35,28 +37,14 @@ pub fn read(page: &[u8]) -> Header
 fn front(h: Header) -> [u8; 14]
     ensures { result ≡ front_of h }
 {
-    let n = h.n;
-    let root = h.root.0;
-    let height = h.height;
-    let free = h.free.0;
-    let count = h.count;
-    let edition = h.edition;
-    [
-        (n % 256) as u8,
-        (n / 256) as u8,
-        (root % 256) as u8,
-        (root / 256) as u8,
-        (height % 256) as u8,
-        (height / 256) as u8,
-        (free % 256) as u8,
-        (free / 256) as u8,
-        (count % 256) as u8,
-        (count / 256 % 256) as u8,
-        (count / 65536 % 256) as u8,
-        (count / 16777216) as u8,
-        (edition % 256) as u8,
-        (edition / 256) as u8,
-    ]
+    let mut bytes = [0; 14];
+    h.n.put(&mut bytes, Offset(0));
+    h.root.put(&mut bytes, Offset(2));
+    h.height.put(&mut bytes, Offset(4));
+    h.free.put(&mut bytes, Offset(6));
+    h.count.put(&mut bytes, Offset(8));
+    h.edition.put(&mut bytes, Offset(12));
+    bytes
 }
 
 // Writes a header over one, or over a page of zeros.

@@ -4,22 +4,26 @@ ghost use Rattle.octets.specs.Numbers.{word16};
 ghost use Rattle.model.specs.Layouts.{to_over, of_over};
 ghost use Rattle.page.specs.Overflow.{over_front, over_page, OverBytes};
 
+use super::kind::Kind;
+use octets::numbers::Number;
 use octets::places::{Offset, PageNo};
 
-// The next page of the chain.
+// The next page of the chain. (Beside that of a free page, but for the definition that it is promised by.)
+#[tactic(auto, unfolding(model::specs::Layouts::of_over))]
 pub fn next(page: &[u8]) -> PageNo
     requires { 8 ≤ length page.now }
     ensures { result.0 ≡ (of_over page.now).next }
 {
-    PageNo(octets::numbers::get16(page, Offset(2)))
+    PageNo::get(page, Offset(2))
 }
 
-// How many bytes of the value the page says that it holds.
+// How many bytes of the value the page says that it holds. (Beside the count of an inner page: see there.)
 pub fn count(page: &[u8]) -> usize
     requires { 8 ≤ length page.now }
-    ensures { (result ≡ word16 page.now 4) × (result < 65536) }
+    ensures said { result ≡ word16 page.now 4 }
+    ensures small { result < 65536 }
 {
-    octets::numbers::get16(page, Offset(4)) as usize
+    usize::from(u16::get(page, Offset(4)))
 }
 
 // The bytes of the value that the page holds: a part of it.
@@ -35,26 +39,21 @@ pub fn held(page: &[u8]) -> &[u8]
 fn front(next: PageNo, held: u16) -> [u8; 8]
     ensures { result ≡ over_front next.0 held }
 {
-    let n = next.0;
-    [
-        3,
-        0,
-        (n % 256) as u8,
-        (n / 256) as u8,
-        (held % 256) as u8,
-        (held / 256) as u8,
-        0,
-        0,
-    ]
+    let mut bytes = [0; 8];
+    bytes[0] = Kind::Overflow as u8;
+    next.put(&mut bytes, Offset(2));
+    held.put(&mut bytes, Offset(4));
+    bytes
 }
 
 // Makes an overflow page of any page.
 pub fn write(page: &mut [u8], next: PageNo, held: &[u8])
-    requires { (8 + length held.now ≤ length page.old) × (length held.now < 65536) }
+    requires room { 8 + length held.now ≤ length page.old }
+    requires small { length held.now < 65536 }
     ensures { page.new ≡ to_over (length page.old) (over_page next.0 held.now) }
 {
-    let n = page.len();
-    octets::runs::zero(page, Offset(0), n);
+    page.fill(0);
+    // Below 65,536 by the clause `small`: `try_from` would bring an `Err` that can't come.
     let bytes = front(next, held.len() as u16);
     octets::runs::copy_in(page, Offset(0), &bytes);
     octets::runs::copy_in(page, Offset(8), held);
@@ -65,21 +64,11 @@ pub fn is_overflow(page: &[u8]) -> bool
     requires { 8 ≤ length page.now }
     ensures { Says result (OverBytes page.now) }
 {
-    if page[0] != 3 {
-        return false;
-    }
-    if page[1] != 0 {
-        return false;
-    }
-    if page[6] != 0 {
-        return false;
-    }
-    if page[7] != 0 {
-        return false;
-    }
     let e = 8 + count(page);
-    if page.len() < e {
-        return false;
-    }
-    octets::runs::blank(&page[e..])
+    page[0] == Kind::Overflow as u8
+        && page[1] == 0
+        && page[6] == 0
+        && page[7] == 0
+        && e <= page.len()
+        && octets::runs::blank(&page[e..])
 }

@@ -1,45 +1,36 @@
 ghost use Rattle.std.specs.Prelude.{◌≡◌};
 ghost use Rattle.model.specs.Edition.{edition1};
 ghost use Rattle.model.specs.Refusals.{good_image, good_key, good_bounds, good_value, by_lengths};
-ghost use Rattle.store.specs.Numbers.{number_of};
+ghost use Rattle.store.specs.Numbers.{outcome_number};
 
 use super::refusal::Refusal;
 
 // Whether an image can have that length.
+#[tactic(auto, unfolding(model::specs::Refusals::good_image, model::specs::Accept::between))]
 pub fn image(length: usize) -> bool
     ensures { result ≡ good_image edition1 length }
 {
-    if length % 512 != 0 {
-        return false;
-    }
-    let n = length / 512;
-    if n < 2 {
-        return false;
-    }
-    n <= 1024
+    length % 512 == 0 && (2..=1024).contains(&(length / 512))
 }
 
 // Whether a key can have that length.
+#[tactic(auto, unfolding(model::specs::Refusals::good_key, model::specs::Accept::between, model::specs::Sizes::key_most))]
 pub fn key(length: usize) -> bool
     ensures { result ≡ good_key length }
 {
-    if length == 0 {
-        return false;
-    }
-    length <= 32
+    (1..=32).contains(&length)
 }
 
 // Whether a scan's bounds can have those lengths.
+#[tactic(auto, unfolding(model::specs::Refusals::good_bounds, model::specs::Sizes::key_most))]
 pub fn bounds(low: usize, high: usize) -> bool
     ensures { result ≡ good_bounds low high }
 {
-    if 32 < low {
-        return false;
-    }
-    high <= 32
+    low <= 32 && high <= 32
 }
 
 // Whether a value can have that length.
+#[tactic(auto, unfolding(model::specs::Refusals::good_value, model::specs::Sizes::value_most, model::specs::Sizes::chain_most, model::specs::Sizes::payload))]
 pub fn value(length: usize) -> bool
     ensures { result ≡ good_value 512 length }
 {
@@ -47,21 +38,21 @@ pub fn value(length: usize) -> bool
 }
 
 // What the lengths of image and work area alone refuse, in the table's order; `keys` and `value` say whether those are good.
-pub fn test(bytes: usize, entries: usize, keys: bool, value: bool) -> Refusal
-    ensures { number_of result ≡ by_lengths edition1 bytes entries keys value }
+#[tactic(auto, unfolding(model::specs::Refusals::by_lengths, model::specs::Refusals::by_arguments, octets::specs::Choice::choose))]
+pub fn test(bytes: usize, entries: usize, keys: bool, value: bool) -> Result<(), Refusal>
+    ensures { outcome_number result ≡ by_lengths edition1 bytes entries keys value }
 {
-    let good = image(bytes);
-    if !good {
-        return Refusal::BadImage;
+    if !image(bytes) {
+        return Err(Refusal::BadImage);
     }
     if entries < bytes / 512 {
-        return Refusal::SmallWork;
+        return Err(Refusal::SmallWork);
     }
     if !keys {
-        return Refusal::BadKey;
+        return Err(Refusal::BadKey);
     }
     if !value {
-        return Refusal::BadValue;
+        return Err(Refusal::BadValue);
     }
-    Refusal::Done
+    Ok(())
 }

@@ -1,35 +1,34 @@
 ghost use Rattle.std.specs.Prelude.{◌≡◌};
-ghost use Rattle.store.specs.Numbers.{number_of};
+ghost use Rattle.store.specs.Numbers.{number_of, outcome_number};
 
-// Why a call was refused, or that it was done. The numbers are document 01's (specs/Numbers.antt).
-#[derive(Clone, Copy)]
+// Why a call was refused. A refusal's number is document 01's (specs/Numbers.antt); the cast to it stands in `From` alone.
+#[derive(Clone, Copy, Debug, PartialEq, Eq)]
 pub enum Refusal {
-    Done,
-    BadImage,
-    Damaged,
-    BadKey,
-    BadValue,
-    Missing,
-    NoRoom,
-    TooShort,
-    Malformed,
-    SmallWork,
+    BadImage = 1,
+    Damaged = 2,
+    BadKey = 3,
+    BadValue = 4,
+    Missing = 5,
+    NoRoom = 6,
+    TooShort = 7,
+    Malformed = 8,
+    SmallWork = 9,
 }
 
-// The refusal's number.
-pub fn number(r: Refusal) -> u16
-    ensures { result ≡ number_of r }
+impl From<Refusal> for u16 {
+    ghost from_gives = { λ refusal n. n ≡ number_of refusal };
+
+    fn from(refusal: Refusal) -> u16 {
+        refusal as u16
+    }
+}
+
+// The number of how a call went: the refusal's, or 0 if it was done.
+pub fn number(outcome: Result<(), Refusal>) -> u16
+    ensures { result ≡ outcome_number outcome }
 {
-    match r {
-        Refusal::Done => 0,
-        Refusal::BadImage => 1,
-        Refusal::Damaged => 2,
-        Refusal::BadKey => 3,
-        Refusal::BadValue => 4,
-        Refusal::Missing => 5,
-        Refusal::NoRoom => 6,
-        Refusal::TooShort => 7,
-        Refusal::Malformed => 8,
-        Refusal::SmallWork => 9,
+    match outcome {
+        Ok(()) => 0,
+        Err(refusal) => refusal.into(),
     }
 }

@@ -1,27 +1,39 @@
 -- An image is a book of pages: page p is the part at p times 512, and a page that is written leaves the others as they were.
-use mathlib.Core.Path.{◌≡◌, sym, ap, ◌∙◌}
-use mathlib.Core.List.{List, [], append_assoc}
+use mathlib.Core.Path.{◌≡◌, refl, sym, ap, ◌∙◌}
+use mathlib.Core.List.{List, [], append_assoc, map}
 use mathlib.Core.Logic.{◌⊎◌, inl, inr, ⊎_elim}
-use Prim.Native.Nat.{ℕ, ◌+◌, ◌-◌, ◌*◌, ◌/◌, ◌≤◌, ◌<◌}
+use Prim.Native.Nat.{ℕ, zero, suc, ◌+◌, ◌-◌, ◌*◌, ◌/◌, ◌≤◌, ◌<◌}
 use native.Mathlib.Nat.{mul-div_cancel}
 use native.Mathlib.Decide.{dec_le}
 use native.Mathlib.Omega.{arith}
 use borrow.Rule.Slice.PartMut.{put_mid}
 use lib.ListN.{length, get_or, take, drop}
-use lib.Seq.{drop-drop}
+use lib.Seq.{drop-drop, take-take}
+use Rattle.std.specs.Simd.{first_chunks}
 use Rattle.octets.specs.Runs.{part}
 use Rattle.octets.proofs.Over.{length_over, over-comm, over-over, over_eq}
 use Rattle.octets.proofs.Part.{part_length, part-stands, part-over-out}
+use Rattle.model.specs.Decode.{cut}
 use Rattle.model.specs.Edition.{edition1}
 use Rattle.model.proofs.Editions.{lawful1}
 use Rattle.laws_image.proofs.ByPages.{get_or-open_pages}
-use Rattle.tree.specs.Book.{page_at, set_page, pages_of, Sized}
+use Rattle.tree.specs.Book.{page_at, set_page, pages_of}
 
 pub pages_of-page : (image : List ℕ) (n p : ℕ) → length image ≡ n * 512 → p < n → get_or (pages_of image n) p [] ≡ page_at image p
 unfolding pages_of page_at
 pages_of-page image n p e h =
     let q : length image / 512 ≡ n = rw e (mul-div_cancel n (omega arith)) in
     rw q at (get_or-open_pages edition1 lawful1 image p (rw q h))
+
+-- the library's chunks are the pages
+chunks-cut : (image : List ℕ) (n : ℕ) → map (take 512) (cut 512 n image) ≡ first_chunks 512 n image
+unfolding cut
+chunks-cut image zero = refl
+chunks-cut image (suc n) = rw (take-take 512 512 image (omega arith), chunks-cut (drop 512 image) n)
+
+pub pages_of-chunks : (image : List ℕ) (n : ℕ) → length image ≡ n * 512 → first_chunks 512 (length image / 512) image ≡ pages_of image n
+unfolding pages_of
+pages_of-chunks image n e = let q : length image / 512 ≡ n = rw e (mul-div_cancel n (omega arith)) in rw q (sym (chunks-cut image n))
 
 pub length-page_at : (image : List ℕ) (p : ℕ) → p * 512 + 512 ≤ length image → length (page_at image p) ≡ 512
 unfolding page_at
@@ -30,9 +42,6 @@ length-page_at image p h = part_length image (p * 512) 512 h
 pub page-taken : (image : List ℕ) (p : ℕ) → part image (p * 512) (p * 512 + 512 - p * 512) ≡ page_at image p
 unfolding page_at
 page-taken image p = let e : p * 512 + 512 - p * 512 ≡ 512 = omega arith in rw e
-
-pub inside : (image : List ℕ) (n : ℕ) (work : List ℕ) (p : ℕ) → Sized image n work → p < n → p * 512 + 512 ≤ length image
-inside image n work p s h = omega (arith, s.whole)
 
 -- A page written ------------------------------------------------------------------------------------------------------------
 

@@ -3,12 +3,12 @@ ghost use Rattle.tree.specs.Book.{page_at};
 
 use octets::places::PageNo;
 
-// Page p of an image: a part of it.
+// Page p of an image: a part of it. (It keeps its promise for the calls that change an image; `Walk` reads pages by `as_chunks`.)
 pub fn page_of(image: &[u8], p: PageNo) -> &[u8]
     requires { p.0 * 512 + 512 ≤ length image.now }
     ensures { result.now ≡ page_at image.now p.0 }
 {
-    let a = (p.0 as usize) * 512;
+    let a = usize::from(p.0) * 512;
     let e = a + 512;
     &image[a..e]
 }

@@ -3,6 +3,5 @@
 #![tactic(auto)]
 
 pub mod image; // a page of the image
-pub mod meeting; // a page met once
-pub mod chain; // the chain of a value
-pub mod free_list; // the free list
+pub mod meeting; // a page met once: roles, the work area, and why a walk stops
+pub mod walk; // the walk over chains and the free list

@@ -1,12 +1,9 @@
 -- It is the test by the comparison's answer.
-use Rattle.octets.proofs.Order.{before_by}
+use Rattle.std.proofs.Common.{◌∙◌, ap}
+use Rattle.std.specs.Ordering.{is_lt}
+use Rattle.octets.specs.Keys.{before}
 use Rattle.octets.proofs.keys.before.Goals as goal
 
-pub returns-in-Less : goal.returns-in-Less
-returns-in-Less c = before_by _ _ _ _ c.compare-o.ensures c.in-Less.is
-
-pub returns-in-Equal : goal.returns-in-Equal
-returns-in-Equal c = before_by _ _ _ _ c.compare-o.ensures c.in-Equal.is
-
-pub returns-in-Greater : goal.returns-in-Greater
-returns-in-Greater c = before_by _ _ _ _ c.compare-o.ensures c.in-Greater.is
+pub returns : goal.returns
+unfolding before
+returns c = c.is_lt.ensures ∙ ap is_lt c.compare.ensures

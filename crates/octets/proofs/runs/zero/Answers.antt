@@ -1,13 +1,7 @@
--- A turn is the law of one more zero.
-use Rattle.std.proofs.Common.{arith, sym}
-use Rattle.octets.specs.Runs.{zeros}
-use Rattle.octets.proofs.Over.{over_none}
-use Rattle.octets.proofs.Turns.{zeros_turn}
+-- The part filled is a run of zeros.
+use Rattle.std.proofs.Common.{arith}
+use Rattle.octets.proofs.Parts.{part_zeroed}
 use Rattle.octets.proofs.runs.zero.Goals as goal
 
-pub loop-i-init : goal.loop-i-init
-unfolding zeros
-loop-i-init c = record { within = omega arith; so_far = sym (over_none _ _) }
-
-pub loop-i-preserved : goal.loop-i-preserved
-loop-i-preserved c = record { within = omega arith; so_far = zeros_turn _ _ _ _ c.loop-i.invariant.so_far }
+pub returns : goal.returns
+returns c = rw c.fill.ensures.after (part_zeroed _ _ _ _ (omega arith) c.requires)

@@ -1,22 +1,16 @@
 -- The page is its own re-encoding exactly if its front and its records are and zeros stand behind them.
-use native.Mathlib.Omega.{arith}
+use Rattle.std.proofs.Common.{rules}
 use Rattle.octets.specs.Runs.{part}
-use Rattle.octets.proofs.Flags.{says_no, says-false}
+use Rattle.octets.proofs.Flags.{says_no}
 use Rattle.page.proofs.InnerRule.{rule_few, rule_front, rule_ranked, rule_says}
 use Rattle.page.proofs.inner.is_inner.Goals as goal
 
-pub returns-then-not-is_front : goal.returns-then-not-is_front
-returns-then-not-is_front c = says-false c.is_front.ensures c.if-not-is_front.true (rule_front _ c.requires)
-
-pub returns-then-c-gt14 : goal.returns-then-c-gt14
-returns-then-c-gt14 c = says_no (λ k. omega (arith, rule_few _ c.requires k, c.count-c.ensures.0, c.if-c-gt14.true))
-
-pub returns-then-not-are_records : goal.returns-then-not-are_records
-returns-then-not-are_records c =
-    says-false c.are_records.ensures c.if-not-are_records.true (λ k. rw c.count-c.ensures.0 (rule_ranked _ c.requires k))
-
-pub returns : goal.returns
+pub returns-then-are_records : goal.returns-then-are_records
 unfolding part
-returns c =
-    rule_says _ c.requires _ _ (c.is_front.ensures.sound c.if-not-is_front.false) c.count-c.ensures.0 (omega (arith, c.if-c-gt14.false))
-    (c.are_records.ensures.sound c.if-not-are_records.false) c.blank.ensures
+returns-then-are_records c =
+    rule_says _ c.requires _ _ (search rules) c.count-c.ensures.said (search rules) (search rules) c.blank.ensures
+
+pub returns-else-are_records : goal.returns-else-are_records
+returns-else-are_records c =
+    rw c.if-are_records.false
+    (says_no (λ k. let a = rule_few _ c.requires k in let b = rule_front _ c.requires k in let d = rule_ranked _ c.requires k in search rules))

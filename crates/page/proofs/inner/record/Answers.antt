@@ -6,4 +6,4 @@ use Rattle.page.proofs.inner.record.Goals as goal
 pub returns : goal.returns
 returns c =
     let l : length c.args.key.bytes ≡ 32 = search rules in
-    record_made _ _ _ _ _ l c.put16.ensures c.copy_in.ensures
+    record_made _ _ _ _ _ l c.put.ensures c.copy_in.ensures

@@ -5,4 +5,4 @@ use Rattle.page.proofs.inner.separator.Goals as goal
 
 pub returns : goal.returns
 unfolding part
-returns c = key-part _ _ _ c.length_at.ensures.0
+returns c = key-part _ _ _ c.from-n.ensures

@@ -5,4 +5,4 @@ use Rattle.tree.proofs.image.page_of.Goals as goal
 
 pub returns : goal.returns
 unfolding part
-returns c = page-taken _ _
+returns c = rw c.from-a.ensures (page-taken _ _)

@@ -1,0 +1,10 @@
+-- The bytes of the number are the part written.
+use Rattle.std.proofs.Common.{arith, ◌∙◌}
+use Rattle.octets.proofs.Words.{le_bytes16, length-bytes16}
+use Rattle.octets.proofs.Parts.{part_written}
+use Rattle.octets.proofs.numbers.U16Number.put.Goals as goal
+
+pub returns : goal.returns
+returns c =
+    part_written _ _ _ _ _ (c.copy_from_slice.ensures.after ∙ c.to_le_bytes.ensures ∙ le_bytes16 _ c.ranges.self.fits)
+    (omega (arith, length-bytes16 c.args.self)) (omega arith)
