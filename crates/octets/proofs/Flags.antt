@@ -13,7 +13,7 @@ use Rattle.octets.specs.Runs.{zeros}
 use Rattle.octets.specs.Says.{Says}
 
 -- A flag ------------------------------------------------------------------------------------------------------------------
--- It says no of what does not hold, and of anything that goes with what it says.
+-- It says no of what does not hold; what it says of one thing it says of anything that goes with it.
 
 pub says_no : {P : Type 0} → (P → ⊥) → Says false P
 says_no n = record { sound = λ e. absurd (false≢true e); whole = λ q. absurd (n q) }

@@ -1,5 +1,5 @@
-// A page of an image, by its number; 0 as a reference means none. (No Option: what is read of a page is promised as its number, and a 0
-// where a page is due is met and refused like any other wrong number.)
+// A page of an image, by its number; 0 as a reference means none. (No Option: what is read of a page is promised as its number, as
+// by `free::next` and `overflow::next`, and a 0 where a page is due is refused like any other wrong number.)
 #[derive(Clone, Copy, Debug, PartialEq, Eq)]
 pub struct PageNo(pub u16);
 

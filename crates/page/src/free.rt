@@ -7,7 +7,7 @@ use super::kind::Kind;
 use octets::numbers::Number;
 use octets::places::{Offset, PageNo};
 
-// The next free page that a free page names.
+// The next free page that a free page names. (See `overflow::next`.)
 #[tactic(auto, unfolding(model::specs::Layouts::of_free))]
 pub fn next(page: &[u8]) -> PageNo
     requires { 4 ≤ length page.now }

@@ -150,7 +150,8 @@ fn front(c: u16, first: PageNo) -> [u8; 12]
     bytes
 }
 
-// Makes an inner page of a first child and n records of another page, from record a on.
+// Makes an inner page of a first child and n records of another page, from record a on. (A first record and a count, and no slice of the
+// records: `Fills` speaks of these.)
 pub fn fill(page: &mut [u8], first: PageNo, from: &[u8], a: usize, n: usize)
     requires first { a ≤ 15 }
     requires few { n ≤ 15 }

@@ -8,7 +8,8 @@ use super::kind::Kind;
 use octets::numbers::Number;
 use octets::places::{Offset, PageNo};
 
-// The next page of the chain. (Beside that of a free page, but for the definition that it is promised by.)
+// The next page of the chain. (`free::next` reads the same two bytes: one function for both would take the least length and the
+// definition that it is promised by as parameters, and say no more.)
 #[tactic(auto, unfolding(model::specs::Layouts::of_over))]
 pub fn next(page: &[u8]) -> PageNo
     requires { 8 ≤ length page.now }

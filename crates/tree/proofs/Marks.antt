@@ -1,4 +1,4 @@
--- The work area: each entry has a role, and a walk that is refused leaves none.
+-- The test that each entry has a role, and that a refused outcome says `none`.
 use Rattle.std.proofs.Common.{◌≡◌, refl, List, [], ◌∷◌, ℕ, Bool, not, length}
 use Rattle.std.specs.Prelude.{Result, Ok, Err, IsErr}
 use Rattle.std.specs.List.{list_all}

@@ -3,7 +3,8 @@ ghost use Rattle.tree.specs.Book.{page_at};
 
 use octets::places::PageNo;
 
-// Page p of an image: a part of it. (It keeps its promise for the calls that change an image; `Walk` reads pages by `as_chunks`.)
+// Page p of an image: a part of it. (Kept with its clause: what changes an image has it as bytes, since
+// `as_chunks_mut` says nothing of what they are afterwards. `Walk` reads by `as_chunks`.)
 pub fn page_of(image: &[u8], p: PageNo) -> &[u8]
     requires { p.0 * 512 + 512 ≤ length image.now }
     ensures { result.now ≡ page_at image.now p.0 }

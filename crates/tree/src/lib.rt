@@ -1,4 +1,4 @@
-// Pages together: where a page stands in the image, and the walk of check over tree, chains and free list. It knows nothing of refusals.
+// Pages together: where a page stands in the image, and the walk of check, so far over chains and the free list. It knows nothing of refusals.
 
 #![tactic(auto)]
 
