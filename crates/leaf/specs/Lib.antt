@@ -1,3 +1,4 @@
 pub mod Cells
 pub mod Values
 pub mod Finding
+pub mod Empty
