@@ -7,14 +7,8 @@ use octets::numbers::Number;
 use octets::places::{Offset, PageNo};
 use page::kind::Kind;
 
-// How many slots a page says that it has.
-pub fn count(page: &[u8]) -> usize
-    requires { 12 ≤ length page.now }
-    ensures said { result ≡ word16 page.now 2 }
-    ensures small { result < 65536 }
-{
-    usize::from(u16::get(page, Offset(2)))
-}
+// How many slots a page says that it has: the count stands where an inner page has its own.
+pub use page::inner::count;
 
 // Where the cells start.
 #[tactic(auto, unfolding(model::specs::Layouts::of_leaf))]
