@@ -1,15 +1,16 @@
 -- What the library's methods leave of a slice, in the words of runs: a part written, zeroed, moved.
 use mathlib.Core.Path.{◌≡◌, sym, ◌∙◌}
 use mathlib.Core.List.{List}
-use Prim.Native.Nat.{ℕ, ◌+◌, ◌-◌, ◌≤◌}
+use Prim.Native.Nat.{ℕ, ◌+◌, ◌-◌, ◌≤◌, ◌<◌}
+use native.Mathlib.Nat.{zero-add}
 use native.Mathlib.Omega.{arith}
-use lib.ListN.{length, take, drop, replicate, length-take, length-drop, length-replicate}
+use lib.ListN.{length, get_or, take, drop, replicate, length-take, length-drop, length-replicate}
 use lib.Seq.{drop-drop}
 use borrow.Rule.Slice.PartMut.{put_mid}
 use Rattle.std.specs.List.{copy_within}
 use Rattle.std.proofs.Common.{append_assoc}
 use Rattle.octets.specs.Runs.{over, part, zeros}
-use Rattle.octets.proofs.Over.{over_eq}
+use Rattle.octets.proofs.Over.{length-zeros, over_eq, over-all, over_zeros}
 use Rattle.octets.proofs.Part.{part_length}
 
 module _ (l : List ℕ) (at k : ℕ) where
@@ -29,3 +30,7 @@ part_moved l from to n h k =
     let e : length (part l from n) ≡ n = part_length l from n h in
     let f : from + n - from ≡ n = omega arith in
     rw (over_eq l to (part l from n) (omega arith), e, f)
+
+-- a run of which each byte is zero
+pub all-zeros : (r : List ℕ) (n : ℕ) → length r ≡ n → ((i : ℕ) → i < n → get_or r i 0 ≡ 0) → r ≡ zeros n
+all-zeros r n h z = sym (over_zeros r 0 n (λ i w. rw zero-add (z i w))) ∙ over-all r (zeros n) (length-zeros n ∙ sym h)

@@ -19,7 +19,7 @@ use Rattle.page.specs.declared.header.Header.{Header}
 use Rattle.page.specs.Header.{head_of, front_of, HeadBytes}
 use Rattle.page.specs.Free.{FreeBytes}
 use Rattle.page.specs.Overflow.{over_front, over_page, OverBytes}
-use Rattle.page.proofs.Fronts.{pad-front, pad-rest, pad-of, front-over, zeros-over, read16, read32}
+use Rattle.page.proofs.Fronts.{pad-front, pad-rest, pad-of, front-over, zeros-over, rest-over, read16, read32}
 
 -- Header ------------------------------------------------------------------------------------------------------------------
 
@@ -128,13 +128,13 @@ front_length : (next held : ℕ) → length (over_front next held) ≡ 8
 unfolding over_front bytes16
 front_length next held = refl
 
-pub over-written : (n : ℕ) (z f y q held : List ℕ) (next : ℕ) → 8 + length held ≤ n → z ≡ zeros n → f ≡ over_front next (length held)
-    → y ≡ over z 0 f → q ≡ over y 8 held → q ≡ to_over n (over_page next held)
-over-written n z f y q held next h e i w v =
+pub over-written : (p z f y q held : List ℕ) (next : ℕ) → 8 + length held ≤ length p → z ≡ over p (8 + length held) (zeros (length p - (8 + length held)))
+    → f ≡ over_front next (length held) → y ≡ over z 0 f → q ≡ over y 8 held → q ≡ to_over (length p) (over_page next held)
+over-written p z f y q held next h e i w v =
     let l : 0 + length f ≡ 8 = ap (λ (x : List ℕ). 0 + length x) i ∙ omega (arith, front_length next (length held)) in
     let j : over z 0 (f ++ held) ≡ over y 8 held = over-append z 0 f held ∙ rw (l, w) in
     let o : f ++ held ≡ over_bytes next held = rw i (over-joined next held) in
-    v ∙ (sym j ∙ (rw (o, e) (zeros-over n (over_bytes next held) (omega (arith, over-length next held))) ∙ sym (to-over n next held)))
+    v ∙ (sym j ∙ (rw (o, e) (rest-over p (over_bytes next held) (8 + length held) (over-length next held) h) ∙ sym (to-over (length p) next held)))
 
 over-page : (p : List ℕ) → of_over p ≡ over_page (word16 p 2) (part p 8 (word16 p 4))
 unfolding of_over over_page

@@ -60,6 +60,13 @@ zeros-over n b h =
     = rw z (zeros-rest n (length b) h) in
     front-over (zeros n) b (length b) refl (omega arith) r ∙ ap (λ (m : ℕ). pad m b) z
 
+-- the same of a page of which the bytes behind are cleared
+pub rest-over : (p b : List ℕ) (k : ℕ) → length b ≡ k → k ≤ length p → over (over p k (zeros (length p - k))) 0 b ≡ pad (length p) b
+rest-over p b k size h =
+    let l = length_over p k (zeros (length p - k)) in
+    let z = part-stands p k (zeros (length p - k)) (length p - k) (length-zeros (length p - k)) (omega arith) in
+    front-over _ b k size (omega arith) (rw (l, z, length-zeros (length p - k))) ∙ ap (λ (m : ℕ). pad m b) l
+
 -- Read --------------------------------------------------------------------------------------------------------------------
 -- The bytes of a page are the bytes of the numbers in it.
 

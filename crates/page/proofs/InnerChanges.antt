@@ -13,7 +13,7 @@ use Rattle.model.specs.Types.{Sep}
 use Rattle.model.specs.Layouts.{InnerPage, to_inner, record_bytes}
 use Rattle.model.proofs.Lists.{gather_append}
 use Rattle.page.specs.Inner.{front_is, Fits, Joins, Short, none-short, one-short, Is, inner, Inserts, Removes, Replaces, SetsFirst, Fills, Appends, no_sep}
-use Rattle.page.proofs.Fronts.{zeros-over}
+use Rattle.page.proofs.Fronts.{rest-over}
 use Rattle.page.proofs.InnerLaid.{part_middle, over_middle, over_touch, all, all_cons, all-length, record_length, short-head, short-tail, short-take, short-drop, front_length, to_padded, body-length, Parted, parted, whole, behind, parted-at, parted-around, count-is}
 
 -- In front of the records and behind them -----------------------------------------------------------------------------------
@@ -139,25 +139,26 @@ records-part p q a n w h =
     part_middle p (front_is (word16 p 2) q.first ++ all (take a q.rest)) (all (take n Y)) (all (drop n Y) ++ zeros v.gap) (12 + 35 * a)
     (v.bytes ∙ rw (s, append_assoc (all (take n Y)) (all (drop n Y)) (zeros v.gap))) v.here (35 * n) (omega (arith, all-length (short-take n v.right)))
 
--- a front and records over a page that is cleared
-filled : (l f n : ℕ) (R : List (Sep ℕ)) → n ≡ length R → Short R → 12 + 35 * n ≤ l
-    → over (over (zeros l) 0 (front_is n f)) 12 (all R) ≡ to_inner l (inner f R)
-filled l f n R e s room =
+-- a front and records in front of cleared bytes
+filled : (p : List ℕ) (f n : ℕ) (R : List (Sep ℕ)) → n ≡ length R → Short R → 12 + 35 * n ≤ length p
+    → over (over (over p (12 + 35 * n) (zeros (length p - (12 + 35 * n)))) 0 (front_is n f)) 12 (all R) ≡ to_inner (length p) (inner f R)
+filled p f n R e s room =
+    let z : List ℕ = over p (12 + 35 * n) (zeros (length p - (12 + 35 * n))) in
     let g : 12 ≡ 0 + length (front_is n f) = omega (arith, front_length n f) in
-    ap (λ (k : ℕ). over (over (zeros l) 0 (front_is n f)) k (all R)) g
-    ∙ (sym (over-append (zeros l) 0 (front_is n f) (all R))
-    ∙ (zeros-over l (front_is n f ++ all R) (omega (arith, body-length n f s)) ∙ (rw e (sym (to_padded l (inner f R))))))
+    ap (λ (k : ℕ). over (over z 0 (front_is n f)) k (all R)) g
+    ∙ (sym (over-append z 0 (front_is n f) (all R))
+    ∙ (rest-over p (front_is n f ++ all R) (12 + 35 * n) (omega (arith, body-length n f s)) room ∙ (rw e (sym (to_padded (length p) (inner f R))))))
 
-pub fill_is : (l : ℕ) (z b y p' from : List ℕ) (f a n : ℕ) → 12 + 35 * n ≤ l → z ≡ zeros l → b ≡ front_is n f → y ≡ over z 0 b
-    → p' ≡ over y 12 (part from (12 + 35 * a) (12 + 35 * a + 35 * n - (12 + 35 * a))) → Fills from f a n p'
+pub fill_is : (p z b y p' from : List ℕ) (f a n : ℕ) → 12 + 35 * n ≤ length p → z ≡ over p (12 + 35 * n) (zeros (length p - (12 + 35 * n)))
+    → b ≡ front_is n f → y ≡ over z 0 b → p' ≡ over y 12 (part from (12 + 35 * a) (12 + 35 * a + 35 * n - (12 + 35 * a))) → Fills from f a n p'
 unfolding Fills
-fill_is l z b y p' from f a n room e1 e2 e3 e4 q w h =
+fill_is p z b y p' from f a n room e1 e2 e3 e4 q w h =
     let R : List (Sep ℕ) = take n (drop a q.rest) in
     let s : Short R = short-take n (short-drop a w.short) in
     let k : length R ≡ n = length-take-le n (drop a q.rest) (omega (arith, length-drop a q.rest)) in
     let d : 12 + 35 * a + 35 * n - (12 + 35 * a) ≡ 35 * n = omega arith in
-    let o : p' ≡ to_inner l (inner f R) = e4 ∙ rw (e3, e2, e1, d, records-part from q a n w h) (filled l f n R (sym k) s room) in
-    let m : length p' ≡ l = rw (e4, e3, e1, length_over, length_over) (length-zeros l) in
+    let o : p' ≡ to_inner (length p) (inner f R) = e4 ∙ rw (e3, e2, e1, d, records-part from q a n w h) (filled p f n R (sym k) s room) in
+    let m : length p' ≡ length p = rw (e4, e3, e1, length_over, length_over) (length_over _ _ _) in
     record { short = s; room = omega arith; same = rw m o }
 
 pub add_is : (p from : List ℕ) (c m : ℕ) (p' : List ℕ) → c ≡ word16 p 2 → m ≡ word16 from 2 → Joins p from → p' ≡ add_at p c from m → Appends p from p'

@@ -159,7 +159,9 @@ pub fn fill(page: &mut [u8], first: PageNo, from: &[u8], a: usize, n: usize)
     requires room { 12 + 35 * n ≤ length page.old }
     ensures { Fills from.now first.0 a n page.new }
 {
-    page.fill(0);
+    // Only what is behind the records is zeroed: they would be written twice.
+    let behind = page.len() - (12 + 35 * n);
+    octets::runs::zero(page, Offset(12 + 35 * n), behind);
     // At most 15: `try_from` would bring an `Err` that can't come.
     let bytes = front(n as u16, first);
     octets::runs::copy_in(page, Offset(0), &bytes);

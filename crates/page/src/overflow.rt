@@ -53,7 +53,10 @@ pub fn write(page: &mut [u8], next: PageNo, held: &[u8])
     requires small { length held.now < 65536 }
     ensures { page.new ≡ to_over (length page.old) (over_page next.0 held.now) }
 {
-    page.fill(0);
+    // Only what is behind the held bytes is zeroed: a full page would be written twice.
+    let e = 8 + held.len();
+    let behind = page.len() - e;
+    octets::runs::zero(page, Offset(e), behind);
     // Below 65,536 by the clause `small`: `try_from` would bring an `Err` that can't come.
     let bytes = front(next, held.len() as u16);
     octets::runs::copy_in(page, Offset(0), &bytes);

@@ -1,7 +1,9 @@
--- The part filled is a run of zeros.
-use Rattle.std.proofs.Common.{arith}
-use Rattle.octets.proofs.Parts.{part_zeroed}
+-- At the end every byte of the run is zero.
+use Rattle.std.proofs.Common.{◌∙◌, arith, rules}
+use Rattle.octets.proofs.Over.{length-zeros}
+use Rattle.octets.proofs.Parts.{part_written, all-zeros}
 use Rattle.octets.proofs.runs.zero.Goals as goal
 
 pub returns : goal.returns
-returns c = rw c.fill.ensures.after (part_zeroed _ _ _ _ (omega arith) c.requires)
+returns c =
+    part_written _ _ _ _ _ (all-zeros c.loop-x.run c.args.n (search rules) (λ i h. c.loop-x.invariant i (search rules))) (length-zeros _ ∙ omega arith) (omega arith)
